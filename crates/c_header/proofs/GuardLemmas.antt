@@ -14,7 +14,7 @@ use Rattle.c_text.specs.declared.kinds.Kind.{Kind}
 use Rattle.c_text.specs.declared.kinds.Kind.TheVariants.{Procedure, Home, Noted, Floor, Outside}
 use Rattle.c_text.specs.Labels.{Labels, kind_word, datum_label, counter_labels, numbered_labels, state_labels}
 use Rattle.c_text.specs.Labels.{row_labels, field_labels, type_short, word_labels, noted_labels, local_label}
-use Rattle.c_header.specs.Scope.{guard_label}
+use Rattle.c_names.specs.Stems.{guard_of_chart}
 use Rattle.c_header.proofs.NameLists.{all_at, all_both, all_map}
 
 -- a name that doesn't begin with an F
@@ -22,7 +22,8 @@ abbrev IsOther : List ℕ → Type 0
 IsOther name = get_or name 0 0 ≢ 70
 
 -- which isn't the one that is replaced
-apart : (chart name : List ℕ) → IsOther name → name ≢ guard_label chart
+apart : (chart name : List ℕ) → IsOther name → name ≢ guard_of_chart chart
+unfolding guard_of_chart
 apart chart name other e = other (ap (λ (text : List ℕ). get_or text 0 0) e)
 
 -- ---- fields and arrays
@@ -56,7 +57,7 @@ states L =
 
 -- no field or array has the name that is replaced
 pub no_member : (chart : List ℕ) (L : Labels) (i : ℕ) → i < length (row_labels ++ field_labels L)
-    → get_or (row_labels ++ field_labels L) i [] ≢ guard_label chart
+    → get_or (row_labels ++ field_labels L) i [] ≢ guard_of_chart chart
 unfolding field_labels
 no_member chart L i within =
     let of_data : List (List ℕ) = map datum_label L.names.vars in
@@ -112,7 +113,7 @@ noted = (
 )
 
 -- no local has it
-pub no_local : (chart : List ℕ) (kind : Kind) (t : CType) (k : ℕ) → local_label kind t k ≢ guard_label chart
+pub no_local : (chart : List ℕ) (kind : Kind) (t : CType) (k : ℕ) → local_label kind t k ≢ guard_of_chart chart
 unfolding local_label
 no_local chart Procedure t k =
     apart chart (local_label Procedure t k) (chosen (same_type t (Unsigned W32)) t word_labels k words)

@@ -4,6 +4,8 @@ pub mod SiblingNames
 pub mod PathNames
 pub mod NameLists
 pub mod ScopeNames
+pub mod ChartNames
+pub mod ReservedNames
 pub mod CommentLemmas
 pub mod StructLemmas
 pub mod GuardLemmas

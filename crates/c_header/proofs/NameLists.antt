@@ -12,7 +12,7 @@ use Rattle.actions.specs.declared.names.EventKind.{EventKind}
 use Rattle.actions.specs.declared.names.EventKind.TheVariants.{Input, Local, Output}
 use Rattle.c_text.specs.Distinct.{AreDistinct}
 use Rattle.c_text.proofs.MemberNames.{AreOther}
-use Rattle.c_header.specs.Scope.{event_label, event_labels}
+use Rattle.c_header.specs.Scope.{event_word, event_words}
 use Rattle.c_header.proofs.SiblingNames.{rest_distinct}
 
 -- ---- what holds of each
@@ -66,23 +66,6 @@ one_more x xs differ distinct (suc i) (suc j) li lj e =
 pub none_distinct : AreDistinct []
 none_distinct i j li lj e = absurd (omega (arith, li))
 
--- the same text before each
-pub after_distinct : (text : List ℕ) (xs : List (List ℕ)) → AreDistinct xs → AreDistinct (map (λ x. text ++ x) xs)
-after_distinct text [] distinct = none_distinct
-after_distinct text (x ∷ xs) distinct =
-    one_more (text ++ x) (map (λ y. text ++ y) xs)
-    (all_after (λ y. x ≢ y) (λ y. (text ++ x) ≢ y) (λ y. text ++ y) xs
-    (λ y differ e. differ (append_cancel_left text x y e)) (first_differs x xs distinct))
-    (after_distinct text xs (λ i j li lj e.
-    down i j (distinct (suc i) (suc j) (omega (arith, li)) (omega (arith, lj)) e)))
-  where
-    down : (i j : ℕ) → suc i ≡ suc j → i ≡ j
-    down i j e = omega (arith, e)
-
-    first_differs : (y : List ℕ) (ys : List (List ℕ)) → AreDistinct (y ∷ ys) → AllByRecursion (λ z. y ≢ z) ys
-    first_differs y ys d = all_from (λ z. y ≢ z) ys
-        (λ i lt e. absurd (let no : 0 ≡ suc i = d 0 (suc i) (omega arith) (omega (arith, lt)) e in omega (arith, no)))
-
 -- ---- events
 
 -- a name that isn't found isn't the first one, nor one after it
@@ -104,45 +87,57 @@ not_there : (b c : Bool) → (not b && c) ≡ true → b ≡ false
 not_there true c h = absurd cc
 not_there false c h = refl
 
+-- names of which a test finds no two the same
+pub distinct_found : (xs : List (List ℕ)) → are_distinct xs ≡ true → AreDistinct xs
+distinct_found [] distinct = none_distinct
+distinct_found (x ∷ xs) distinct =
+    one_more x xs (differs xs (not_there (is_some (index_of x xs)) (are_distinct xs) distinct))
+    (distinct_found xs (rest_distinct (is_some (index_of x xs)) (are_distinct xs) distinct))
+  where
+    differs : (ys : List (List ℕ)) → is_some (index_of x ys) ≡ false → AllByRecursion (λ y. x ≢ y) ys
+    differs [] none = tt
+    differs (y ∷ ys) none =
+        let apart = not_first y x ys none in ((λ same. apart.0 (sym same)), differs ys apart.1)
+
 -- an event of another name has another one after the chart's
 event_differs : (name : List ℕ) (es : List EventDecl)
     → is_some (index_of name (map (λ (e : EventDecl). e.name) es)) ≡ false
-    → AllByRecursion (λ y. (codes "_E_" ++ name) ≢ y) (event_labels es)
+    → AllByRecursion (λ y. (codes "E_" ++ name) ≢ y) (event_words es)
 event_differs name [] none = tt
 event_differs name (e ∷ es) none =
     let apart = not_first e.name name (map (λ (x : EventDecl). x.name) es) none in
-    by e.kind (λ same. apart.0 (sym (append_cancel_left (codes "_E_") name e.name same)))
+    by e.kind (λ same. apart.0 (sym (append_cancel_left (codes "E_") name e.name same)))
     (event_differs name es apart.1)
   where
-    by : (k : EventKind) → (codes "_E_" ++ name) ≢ (codes "_E_" ++ e.name)
-        → AllByRecursion (λ y. (codes "_E_" ++ name) ≢ y) (event_labels es)
-        → AllByRecursion (λ y. (codes "_E_" ++ name) ≢ y) (event_label k e.name (event_labels es))
+    by : (k : EventKind) → (codes "E_" ++ name) ≢ (codes "E_" ++ e.name)
+        → AllByRecursion (λ y. (codes "E_" ++ name) ≢ y) (event_words es)
+        → AllByRecursion (λ y. (codes "E_" ++ name) ≢ y) (event_word k e.name (event_words es))
     by Input differ all = (differ, all)
     by Local differ all = all
     by Output differ all = (differ, all)
 
 pub events_distinct : (es : List EventDecl) → are_distinct (map (λ (e : EventDecl). e.name) es) ≡ true
-    → AreDistinct (event_labels es)
+    → AreDistinct (event_words es)
 events_distinct [] distinct = none_distinct
 events_distinct (e ∷ es) distinct =
     let names : List (List ℕ) = map (λ (x : EventDecl). x.name) es in
     by e.kind (event_differs e.name es (not_there (is_some (index_of e.name names)) (are_distinct names) distinct))
     (events_distinct es (rest_distinct (is_some (index_of e.name names)) (are_distinct names) distinct))
   where
-    by : (k : EventKind) → AllByRecursion (λ y. (codes "_E_" ++ e.name) ≢ y) (event_labels es)
-        → AreDistinct (event_labels es) → AreDistinct (event_label k e.name (event_labels es))
-    by Input differ rest = one_more (codes "_E_" ++ e.name) (event_labels es) differ rest
+    by : (k : EventKind) → AllByRecursion (λ y. (codes "E_" ++ e.name) ≢ y) (event_words es)
+        → AreDistinct (event_words es) → AreDistinct (event_word k e.name (event_words es))
+    by Input differ rest = one_more (codes "E_" ++ e.name) (event_words es) differ rest
     by Local differ rest = rest
-    by Output differ rest = one_more (codes "_E_" ++ e.name) (event_labels es) differ rest
+    by Output differ rest = one_more (codes "E_" ++ e.name) (event_words es) differ rest
 
 -- what holds of each event's
-pub all_events : (P : List ℕ → Type 0) (es : List EventDecl) → ((name : List ℕ) → P (codes "_E_" ++ name))
-    → AllByRecursion P (event_labels es)
+pub all_events : (P : List ℕ → Type 0) (es : List EventDecl) → ((name : List ℕ) → P (codes "E_" ++ name))
+    → AllByRecursion P (event_words es)
 all_events P [] each = tt
 all_events P (e ∷ es) each = by e.kind (all_events P es each)
   where
-    by : (k : EventKind) → AllByRecursion P (event_labels es)
-        → AllByRecursion P (event_label k e.name (event_labels es))
+    by : (k : EventKind) → AllByRecursion P (event_words es)
+        → AllByRecursion P (event_word k e.name (event_words es))
     by Input all = (each e.name, all)
     by Local all = all
     by Output all = (each e.name, all)

@@ -17,40 +17,41 @@ use Rattle.active_config.proofs.PathLemmas.{parent_before, parent_lt}
 use Rattle.actions.specs.Names.{Names}
 use Rattle.checked_chart.specs.Valid.{HasNames}
 use Rattle.c_header.specs.declared.paths.Form.TheVariants.{Label}
-use Rattle.c_header.specs.Paths.{state_name, letter_text, doubled, path_text}
+use Rattle.c_names.specs.Stems.{letter_text, doubled}
+use Rattle.c_header.specs.Paths.{state_name, path_text}
 use Rattle.c_header.proofs.PathLemmas.{steps, steps-root, steps-child, path-root}
 use Rattle.c_header.proofs.SiblingNames.{same_child}
 
 -- ---- names and separators, read from the left
 
 -- a letter before the first of some names
-push : ℕ → List (List ℕ) → List (List ℕ)
+unfoldable pub push : ℕ → List (List ℕ) → List (List ℕ)
 push c [] = (c ∷ []) ∷ []
 push c (x ∷ xs) = (c ∷ x) ∷ xs
 
 -- a name before the first of some names
-push_all : List ℕ → List (List ℕ) → List (List ℕ)
+unfoldable pub push_all : List ℕ → List (List ℕ) → List (List ℕ)
 push_all [] xs = xs
 push_all (c ∷ cs) xs = push c (push_all cs xs)
 
 -- the names of a path, from a place where no `_` went before, or a single one
-parts : Bool → List ℕ → List (List ℕ)
+unfoldable pub parts : Bool → List ℕ → List (List ℕ)
 parts false [] = [] ∷ []
 parts true [] = [] ∷ [] ∷ []
 parts false (c ∷ cs) = cond (nat_eq c 95) (parts true cs) (push c (parts false cs))
 parts true (c ∷ cs) = cond (nat_eq c 95) (push 95 (parts false cs)) ([] ∷ push c (parts false cs))
 
-pushed-first : (name : List ℕ) (xs : List (List ℕ)) → push_all name ([] ∷ xs) ≡ name ∷ xs
+pub pushed-first : (name : List ℕ) (xs : List (List ℕ)) → push_all name ([] ∷ xs) ≡ name ∷ xs
 unfolding push_all push
 pushed-first [] xs = refl
 pushed-first (c ∷ cs) xs = ap (push c) (pushed-first cs xs)
 
 -- a letter of a name, which isn't `_`, is written as it is
-letter_plain : (c : ℕ) → c < 128 → nat_eq c 95 ≡ false → letter_text c ≡ c ∷ []
+pub letter_plain : (c : ℕ) → c < 128 → nat_eq c 95 ≡ false → letter_text c ≡ c ∷ []
 letter_plain c small other = ap (λ (b : Bool). cond b (codes "__") (encode_utf8 c)) other ∙ encode_ascii c small
 
 -- and `_` as two
-letter_line : (c : ℕ) → nat_eq c 95 ≡ true → letter_text c ≡ 95 ∷ 95 ∷ []
+pub letter_line : (c : ℕ) → nat_eq c 95 ≡ true → letter_text c ≡ 95 ∷ 95 ∷ []
 letter_line c same = ap (λ (b : Bool). cond b (codes "__") (encode_utf8 c)) same
 
 parts_letter : (c : ℕ) (rest : List ℕ) → c < 128 → parts false (letter_text c ++ rest) ≡ push c (parts false rest)
@@ -73,14 +74,14 @@ parts_name (c ∷ cs) rest ascii =
     ∙ ap (push c) (parts_name cs rest (λ i. ascii (suc i)))
 
 -- a name of a path: it begins with a letter
-record IsPart (name : List ℕ) : Type 0 where
-  first : ℕ
-  others : List ℕ
-  is : name ≡ first ∷ others
-  letter : nat_eq first 95 ≡ false
-  ascii : IsAscii name
+pub record IsPart (name : List ℕ) : Type 0 where
+  pub first : ℕ
+  pub others : List ℕ
+  pub is : name ≡ first ∷ others
+  pub letter : nat_eq first 95 ≡ false
+  pub ascii : IsAscii name
 
-part_of_name : (name : List ℕ) → is_name name ≡ true → IsPart name
+pub part_of_name : (name : List ℕ) → is_name name ≡ true → IsPart name
 part_of_name [] h = absurd cc
 part_of_name (c ∷ cs) h =
     let front = (and_parts (begins is_letter (c ∷ cs) && nat_eq (name_length (c ∷ cs)) (length (c ∷ cs))) _ h).0 in
@@ -96,14 +97,14 @@ part_of_name (c ∷ cs) h =
     not_line b h = grind (arith, nat_tests)
 
 -- what a name is written as begins with its letter
-doubled-first : (name : List ℕ) (p : IsPart name) → doubled name ≡ p.first ∷ flat_map letter_text p.others
+pub doubled-first : (name : List ℕ) (p : IsPart name) → doubled name ≡ p.first ∷ flat_map letter_text p.others
 unfolding doubled
 doubled-first name p =
     ap (flat_map letter_text) (chars-IsAscii name p.ascii ∙ p.is)
     ∙ ap (λ (text : List ℕ). text ++ flat_map letter_text p.others)
     (letter_plain p.first (subst (λ (text : List ℕ). get_or text 0 0 < 128) p.is (p.ascii 0)) p.letter)
 
-doubled-parts : (name rest : List ℕ) → IsPart name
+pub doubled-parts : (name rest : List ℕ) → IsPart name
     → parts false (doubled name ++ rest) ≡ push_all name (parts false rest)
 unfolding doubled
 doubled-parts name rest p =
@@ -111,7 +112,7 @@ doubled-parts name rest p =
     ∙ parts_name name rest p.ascii
 
 -- a single `_` before a letter stands between two names
-single : (c : ℕ) (cs : List ℕ) → nat_eq c 95 ≡ false → parts true (c ∷ cs) ≡ [] ∷ parts false (c ∷ cs)
+pub single : (c : ℕ) (cs : List ℕ) → nat_eq c 95 ≡ false → parts true (c ∷ cs) ≡ [] ∷ parts false (c ∷ cs)
 unfolding parts
 single c cs other =
     ap (λ (b : Bool). cond b (push 95 (parts false cs)) ([] ∷ push c (parts false cs))) other

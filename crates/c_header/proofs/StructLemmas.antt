@@ -20,6 +20,7 @@ use Rattle.c_functions.specs.Claims.{field_type}
 use Rattle.c_functions.specs.Layout.{or_count, or_rank}
 use Rattle.c_functions.specs.Plans.{Shape}
 use Rattle.c_text.specs.Labels.{Labels, labels_for, field_types, field_labels, field_label, type_of_field, row_labels}
+use Rattle.c_names.specs.Stems.{name_of_chart}
 use Rattle.c_text.specs.Types.{type_text}
 use Rattle.c_text.proofs.RankLemmas.{rank-none, rank-more, rank-same, rank-all}
 use Rattle.c_text.proofs.TypeLemmas.{types_of_fields, names_of_fields}
@@ -53,12 +54,12 @@ lines-append L f g (x ∷ xs) ys at =
 
 -- a line declares the field with its type and its name
 line_is : (L : Labels) (f : ℕ) (c : List ℕ)
-    → field_line L f c ≡ member_text (type_of_field L f) (field_label L f) c
+    → field_line L f c ≡ member_text L.chart (type_of_field L f) (field_label L f) c
 unfolding field_start member_text
 line_is L f c =
     let rest : List ℕ = c ++ codes " */\n" in
     let name : List ℕ = field_label L f in
-    let type : List ℕ = type_text (type_of_field L f) in
+    let type : List ℕ = type_text L.chart (type_of_field L f) in
     ap (λ (t : List ℕ). codes "    " ++ t)
     (append_assoc type (32 ∷ (name ++ codes "; /* ")) rest
     ∙ ap (λ (t : List ℕ). type ++ (32 ∷ t)) (append_assoc name (codes "; /* ") rest))
@@ -72,9 +73,9 @@ next xs f d within =
 -- lines for all fields from one on
 lines_are : (L : Labels) (cs : List (List ℕ)) (f : ℕ) → f + length cs ≡ length (field_types L)
     → length (field_labels L) ≡ length (field_types L)
-    → lines_from L f cs ≡ members_text (drop f (field_types L)) (drop f (field_labels L)) cs
+    → lines_from L f cs ≡ members_text L.chart (drop f (field_types L)) (drop f (field_labels L)) cs
 unfolding type_of_field field_label
-lines_are L [] f all sized = sym (ap (λ (ts : List CType). members_text ts (drop f (field_labels L)) [])
+lines_are L [] f all sized = sym (ap (λ (ts : List CType). members_text L.chart ts (drop f (field_labels L)) [])
     (drop_all f (field_types L) (omega (arith, all))))
 lines_are L (c ∷ cs) f all sized =
     let ts : List CType = field_types L in
@@ -82,10 +83,10 @@ lines_are L (c ∷ cs) f all sized =
     let types_at = next ts f (Unsigned W32) (omega (arith, all)) in
     let names_at = next names f [] (omega (arith, all, sized)) in
     ap (λ (t : List ℕ). t ++ lines_from L (f + 1) cs) (line_is L f c)
-    ∙ ap (λ (t : List ℕ). member_text (type_of_field L f) (field_label L f) c ++ t)
+    ∙ ap (λ (t : List ℕ). member_text L.chart (type_of_field L f) (field_label L f) c ++ t)
     (lines_are L cs (f + 1) (omega (arith, all)) sized)
-    ∙ sym (ap (λ (us : List CType). members_text us (drop f names) (c ∷ cs)) types_at
-    ∙ ap (λ (ns : List (List ℕ)). members_text (get_or ts f (Unsigned W32) ∷ drop (f + 1) ts) ns (c ∷ cs)) names_at)
+    ∙ sym (ap (λ (us : List CType). members_text L.chart us (drop f names) (c ∷ cs)) types_at
+    ∙ ap (λ (ns : List (List ℕ)). members_text L.chart (get_or ts f (Unsigned W32) ∷ drop (f + 1) ts) ns (c ∷ cs)) names_at)
 
 -- ---- data and counters
 
@@ -397,14 +398,14 @@ module _ (chart : List ℕ) (K : Shape) (tree : IsTree K.tree) where
       )
 
   field_lines : values_fields labels K ++ states_fields chart labels K
-      ≡ members_text (struct_fields K) (field_labels labels) all_comments
+      ≡ members_text chart (struct_fields K) (field_labels labels) all_comments
   field_lines =
       ap (λ (t : List ℕ). t ++ states_fields chart labels K) value_lines
       ∙ ap (λ (t : List ℕ). lines_from labels 0 value_comments ++ t) state_lines
       ∙ sym (lines-append labels 0 (length K.names.vars + 5) value_comments (actives ++ (lasts ++ words))
       (omega (arith, values_size)))
       ∙ lines_are labels all_comments 0 (omega (arith, comments_counted)) (names_of_fields labels)
-      ∙ ap (λ (ts : List CType). members_text ts (field_labels labels) all_comments) (types_of_fields chart K)
+      ∙ ap (λ (ts : List CType). members_text chart ts (field_labels labels) all_comments) (types_of_fields chart K)
 
   row_comments_are : List (List ℕ)
   row_comments_are =
@@ -414,7 +415,7 @@ module _ (chart : List ℕ) (K : Shape) (tree : IsTree K.tree) where
   unfolding row_comments_are
   rows_plain = all_tested row_comments_are refl
 
-  row_lines : rows_text K ≡ arrays_text (struct_rows K) row_labels row_comments_are
+  row_lines : rows_text K ≡ arrays_text chart (struct_rows K) row_labels row_comments_are
   unfolding rows_text row_comments_are member_text
   row_lines =
       let out_size : List ℕ = decimal K.outputs in
@@ -447,10 +448,10 @@ module _ (chart : List ℕ) (K : Shape) (tree : IsTree K.tree) where
         are_row_comments = rows_are;
         is_text = ap (λ (t : List ℕ). codes "typedef struct {\n" ++ t)
             (sym (append_assoc (values_fields labels K) (states_fields chart labels K)
-            (rows_text K ++ (codes "} " ++ (chart ++ codes "_chart;\n\n"))))
-            ∙ ap (λ (t : List ℕ). t ++ (rows_text K ++ (codes "} " ++ (chart ++ codes "_chart;\n\n")))) field_lines
-            ∙ ap (λ (t : List ℕ). members_text (struct_fields K) (field_labels labels) all_comments
-            ++ (t ++ (codes "} " ++ (chart ++ codes "_chart;\n\n")))) row_lines);
+            (rows_text K ++ (codes "} " ++ name_of_chart chart (codes "chart;\n\n"))))
+            ∙ ap (λ (t : List ℕ). t ++ (rows_text K ++ (codes "} " ++ name_of_chart chart (codes "chart;\n\n")))) field_lines
+            ∙ ap (λ (t : List ℕ). members_text chart (struct_fields K) (field_labels labels) all_comments
+            ++ (t ++ (codes "} " ++ name_of_chart chart (codes "chart;\n\n")))) row_lines);
       }
 
   -- with any comments

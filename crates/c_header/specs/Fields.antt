@@ -22,7 +22,7 @@ texts_below text (suc n) = texts_below text n ++ text n
 
 -- T f; /*
 unfoldable pub field_start : Labels → ℕ → List ℕ
-field_start L f = codes "    " ++ (type_text (type_of_field L f) ++ (32 ∷ (field_label L f ++ codes "; /* ")))
+field_start L f = codes "    " ++ (type_text L.chart (type_of_field L f) ++ (32 ∷ (field_label L f ++ codes "; /* ")))
 
 -- T f; /* comment */
 abbrev pub field_line : Labels → ℕ → List ℕ → List ℕ

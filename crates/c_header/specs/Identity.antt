@@ -1,6 +1,7 @@
 -- What both files of a chart say of their making: by which program, under which bounds, and of which chart.
 use Rattle.std.specs.Prelude.{ℕ, ◌+◌, ◌*◌, List, [], ◌∷◌, ◌++◌, codes, decimal, slice_index}
 use Rattle.hex.specs.Hex.{encode_lower}
+use Rattle.c_names.specs.Stems.{name_of_chart}
 use Rattle.c_header.specs.declared.identity.Identity.{Identity}
 
 -- the version of the program
@@ -21,10 +22,10 @@ identity_text chart identity =
 abbrev pub sum_part : List ℕ → ℕ → List ℕ
 sum_part sum k = encode_lower (slice_index sum (k + k) ∷ slice_index sum (k + k + 1) ∷ [])
 
--- CHART_SUM_K, and these bits, with words before and between
+-- X_SUM_K of a chart X, and these bits, with words before and between
 unfoldable pub sum_number : List ℕ → List ℕ → List ℕ → List ℕ → ℕ → List ℕ
 sum_number front chart between sum k =
-    (front ++ chart) ++ ((codes "_SUM_" ++ decimal k) ++ ((between ++ codes "0x") ++ sum_part sum k))
+    (front ++ name_of_chart chart (codes "SUM_")) ++ (decimal k ++ ((between ++ codes "0x") ++ sum_part sum k))
 
 -- all four, with words before the first and words before each other one
 unfoldable pub sum_numbers : List ℕ → List ℕ → List ℕ → List ℕ → List ℕ → List ℕ
@@ -35,5 +36,5 @@ sum_numbers front next chart between sum =
 -- the numbers in the header, which are those of the sum
 unfoldable pub sums_text : List ℕ → Identity → List ℕ
 sums_text chart identity =
-    codes "\n/* The sum of the chart, by 16 bits: the source compares it. */\n"
+    codes "/* The sum of the chart, by 16 bits: the source compares it. */\n"
     ++ (sum_numbers (codes "enum { ") (codes ", ") chart (codes " = ") identity.sum ++ codes " };\n\n")

@@ -1,23 +1,15 @@
 -- How states are named: in the names of C, and in comments.
-use Rattle.std.specs.Prelude.{ℕ, ◌==◌, List, [], ◌∷◌, map, drop, reverse, codes, slice_index_or, if◌then◌else◌}
-use Rattle.std.specs.Prelude.{chars, encode_utf8}
-use Rattle.std.specs.List.{flat_map, join_with_byte}
+use Rattle.std.specs.Prelude.{ℕ, ◌==◌, List, [], ◌∷◌, map, drop, reverse, slice_index_or, if◌then◌else◌}
+use Rattle.std.specs.List.{join_with_byte}
 use Rattle.active_config.specs.Tree.{Tree, ancestors}
 use Rattle.actions.specs.Names.{Names}
+use Rattle.c_names.specs.Stems.{doubled}
 use Rattle.c_header.specs.declared.paths.Form.{Form}
 use Rattle.c_header.specs.declared.paths.Form.TheVariants.{Words, Label}
 
 -- the name of a state
 abbrev pub state_name : Names → ℕ → List ℕ
 state_name n s = slice_index_or n.states s []
-
--- a letter of a name in C: two `_` for each
-abbrev pub letter_text : ℕ → List ℕ
-letter_text c = if c == 95 then codes "__" else encode_utf8 c
-
--- a name with each `_` doubled
-unfoldable pub doubled : List ℕ → List ℕ
-doubled name = flat_map letter_text (chars name)
 
 -- what stands between two names: `/` in words, `_` in C
 abbrev pub separator : Form → ℕ

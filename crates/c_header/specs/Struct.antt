@@ -4,6 +4,7 @@ use Rattle.std.specs.List.{AllByRecursion}
 use Rattle.c_subset.specs.Trees.{Row}
 use Rattle.c_subset.specs.declared.trees.CType.{CType}
 use Rattle.c_subset.specs.Meaning.{CValue}
+use Rattle.c_names.specs.Stems.{name_of_chart}
 use Rattle.c_functions.specs.Plans.{Shape, word}
 use Rattle.c_functions.specs.Starts.{first_values}
 use Rattle.c_text.specs.Labels.{Labels, field_labels, row_labels}
@@ -18,29 +19,29 @@ abbrev pub struct_rows : Shape → List Row
 struct_rows K = record { type = word; size = K.outputs } ∷ record { type = word; size = K.notes } ∷ []
 
 -- T DECLARATOR; /* COMMENT */
-unfoldable pub member_text : CType → List ℕ → List ℕ → List ℕ
-member_text t declarator comment =
-    codes "    " ++ (type_text t ++ (32 ∷ (declarator ++ (codes "; /* " ++ (comment ++ codes " */\n")))))
+unfoldable pub member_text : List ℕ → CType → List ℕ → List ℕ → List ℕ
+member_text chart t declarator comment =
+    codes "    " ++ (type_text chart t ++ (32 ∷ (declarator ++ (codes "; /* " ++ (comment ++ codes " */\n")))))
 
 -- fields of these types and names, with comments
-abbrev pub members_text : List CType → List (List ℕ) → List (List ℕ) → List ℕ
-members_text [] names comments = []
-members_text (t ∷ ts) [] comments = []
-members_text (t ∷ ts) (name ∷ names) [] = []
-members_text (t ∷ ts) (name ∷ names) (comment ∷ comments) =
-    member_text t name comment ++ members_text ts names comments
+abbrev pub members_text : List ℕ → List CType → List (List ℕ) → List (List ℕ) → List ℕ
+members_text chart [] names comments = []
+members_text chart (t ∷ ts) [] comments = []
+members_text chart (t ∷ ts) (name ∷ names) [] = []
+members_text chart (t ∷ ts) (name ∷ names) (comment ∷ comments) =
+    member_text chart t name comment ++ members_text chart ts names comments
 
 -- NAME[SIZE]
 abbrev pub array_declarator : List ℕ → ℕ → List ℕ
 array_declarator name size = name ++ (codes "[" ++ (decimal size ++ codes "]"))
 
 -- arrays of these types, sizes and names, with comments
-abbrev pub arrays_text : List Row → List (List ℕ) → List (List ℕ) → List ℕ
-arrays_text [] names comments = []
-arrays_text (row ∷ rows) [] comments = []
-arrays_text (row ∷ rows) (name ∷ names) [] = []
-arrays_text (row ∷ rows) (name ∷ names) (comment ∷ comments) =
-    member_text row.type (array_declarator name row.size) comment ++ arrays_text rows names comments
+abbrev pub arrays_text : List ℕ → List Row → List (List ℕ) → List (List ℕ) → List ℕ
+arrays_text chart [] names comments = []
+arrays_text chart (row ∷ rows) [] comments = []
+arrays_text chart (row ∷ rows) (name ∷ names) [] = []
+arrays_text chart (row ∷ rows) (name ∷ names) (comment ∷ comments) =
+    member_text chart row.type (array_declarator name row.size) comment ++ arrays_text chart rows names comments
 
 -- any text
 abbrev pub IsAny : List ℕ → Type 0
@@ -58,5 +59,5 @@ pub record DeclaresStruct (IsComment : List ℕ → Type 0) (L : Labels) (fields
   pub row_comments_size : length row_comments ≡ length rows
   pub are_comments : AllByRecursion IsComment comments
   pub are_row_comments : AllByRecursion IsComment row_comments
-  pub is_text : text ≡ codes "typedef struct {\n" ++ (members_text fields (field_labels L) comments
-      ++ (arrays_text rows row_labels row_comments ++ (codes "} " ++ (L.chart ++ codes "_chart;\n\n"))))
+  pub is_text : text ≡ codes "typedef struct {\n" ++ (members_text L.chart fields (field_labels L) comments
+      ++ (arrays_text L.chart rows row_labels row_comments ++ (codes "} " ++ name_of_chart L.chart (codes "chart;\n\n"))))

@@ -7,7 +7,7 @@ ghost use Rattle.c_header.specs.Header.{rows_text};
 
 use actions::{Sort, Var};
 use c_expression_writer::{FileShape, greatest, least};
-use c_text::{Labels, field_type, print_field_label, print_type};
+use c_text::{Labels, print_field_label, print_field_type};
 use code_fields::{print_number, print_signed, print_sort, var_kind_word};
 use fixed_point::Scale;
 use std::alloc::AllocError;
@@ -23,7 +23,7 @@ pub(crate) fn print_field(
         ≡ string_bytes out.old ++ spec.field_start (labels_of labels.now) field) }
 {
     out.push_str("    ")?;
-    print_type(out, field_type(labels, field))?;
+    print_field_type(out, labels, field)?;
     out.push_str(" ")?;
     print_field_label(out, labels, field)?;
     out.push_str("; /* ")

@@ -9,8 +9,9 @@ use crate::fields::{print_counters, print_data, print_rows};
 use crate::identity::{Identity, print_identity, print_sums};
 use crate::numbers::{print_bounds, print_calls, print_events, print_faults};
 use crate::states::{About, print_states};
-use crate::words::print_named;
+use crate::words::{print_named, print_titled};
 use c_expression_writer::FileShape;
+use c_names::print_guard_name;
 use c_text::{Labels, print_prototype};
 use std::alloc::{AllocError, Global};
 
@@ -81,7 +82,7 @@ fn print_usage(out: &mut String, chart: &str) -> Result<(), AllocError>
         out,
         "   the next call is ",
         chart,
-        "_start. An input has to lie in the range of its type, which\n",
+        "start. An input has to lie in the range of its type, which\n",
     )?;
     out.push_str(
         "   stands beside it. Local data (loc_..) may be read. All other fields belong to the\n",
@@ -95,8 +96,23 @@ fn print_guard(out: &mut String, chart: &str) -> Result<(), AllocError>
     ensures { OnOk result
         (string_bytes out.new ≡ string_bytes out.old ++ spec.guard_text chart.now) }
 {
-    print_named(out, "#ifndef FLOW_", chart, "_H\n")?;
-    print_named(out, "#define FLOW_", chart, "_H\n\n")
+    print_guard_line(out, "#ifndef ", chart, "\n")?;
+    print_guard_line(out, "#define ", chart, "\n\n")
+}
+
+/// Appends words, the name that is defined where the header was read, and other words.
+fn print_guard_line(
+    out: &mut String,
+    front: &str,
+    chart: &str,
+    back: &str,
+) -> Result<(), AllocError>
+    ensures { OnOk result (string_bytes out.new
+        ≡ string_bytes out.old ++ spec.guard_line front.now chart.now back.now) }
+{
+    out.push_str(front)?;
+    print_guard_name(out, chart)?;
+    out.push_str(back)
 }
 
 /// Appends what the header needs, after the lines by which it is read once.
@@ -107,14 +123,18 @@ fn print_needs(out: &mut String, chart: &str) -> Result<(), AllocError>
 {
     print_guard(out, chart)?;
     out.push_str("#include <limits.h>\n#include <stdbool.h>\n#include <stdint.h>\n\n")?;
-    out.push_str("#if UINT_MAX != 4294967295u\n#error \"int must have 32 bits\"\n#endif\n\n")
+    out.push_str(
+        "#if UINT_MAX != 4294967295u || INT_MAX != 2147483647 || INT_MIN != -2147483647 - 1\n",
+    )?;
+    out.push_str("#error \"int must have 32 bits, and two's complement\"\n#endif\n\n")?;
+    out.push_str("#ifdef __cplusplus\nextern \"C\" {\n#endif\n\n")
 }
 
 /// Appends that the source needs integers of 128 bits, where it does.
-#[tactic(auto, unfolding(crate::specs::Header::wide_comment))]
+#[tactic(auto, unfolding(crate::specs::Header::wide_needs))]
 fn print_wide(out: &mut String, wide: bool) -> Result<(), AllocError>
     ensures { OnOk result
-        (string_bytes out.new ≡ string_bytes out.old ++ spec.wide_comment wide) }
+        (string_bytes out.new ≡ string_bytes out.old ++ spec.wide_needs wide) }
 {
     if wide {
         out.push_str(needs_wide())
@@ -124,11 +144,11 @@ fn print_wide(out: &mut String, wide: bool) -> Result<(), AllocError>
 }
 
 /// What the header says where the source needs integers of 128 bits.
-#[tactic(auto, unfolding(crate::specs::Header::wide_comment))]
+#[tactic(auto, unfolding(crate::specs::Header::wide_needs))]
 fn needs_wide() -> &'static str
-    ensures { result.now ≡ spec.wide_comment true }
+    ensures { result.now ≡ spec.wide_needs true }
 {
-    "/* The source computes in 128 bits: its compiler must have the type __int128. */\n\n"
+    "#if !defined(__SIZEOF_INT128__)\n#error \"the source computes in 128 bits: it needs __int128\"\n#endif\n\n"
 }
 
 /// Appends what stands from the struct on.
@@ -147,7 +167,7 @@ fn print_back(
     print_start(out, labels, shape)?;
     print_react(out, chart, labels, shape)?;
     print_states(alloc, out, chart, labels, shape, About::Test)?;
-    out.push_str("#endif\n")
+    out.push_str("#ifdef __cplusplus\n}\n#endif\n\n#endif\n")
 }
 
 /// Appends the struct.
@@ -166,7 +186,7 @@ fn print_struct(
     print_values_fields(out, labels, shape)?;
     print_states_fields(alloc, out, chart, labels, shape)?;
     print_rows(out, shape)?;
-    print_named(out, "} ", chart, "_chart;\n\n")
+    print_named(out, "} ", chart, "chart;\n\n")
 }
 
 /// Appends the fields of data, and those after them.
@@ -229,7 +249,7 @@ fn print_react(
         out,
         "\n/* Takes an event: ",
         chart,
-        "_TICK or one of the input events. */\n",
+        "TICK or one of the input events. */\n",
     )?;
     print_prototype(out, labels, shape.react_function())?;
     out.push_str("\n")

@@ -2,7 +2,7 @@
 ghost use Rattle.std.specs.Prelude.{◌≡◌, ◌++◌, ◌<◌, string_bytes, OnOk};
 ghost use Rattle.c_header.specs.Identity as spec;
 
-use crate::words::print_named;
+use crate::words::{print_named, print_titled};
 use code_fields::print_number;
 use flow_base::Bounds;
 use hex::encode;
@@ -40,7 +40,7 @@ pub fn print_identity(
         ≡ string_bytes out.old ++ spec.identity_text chart.now identity) }
 {
     let digits = encode(alloc, &identity.sum)?;
-    print_named(
+    print_titled(
         out,
         "/* The C of the chart ",
         chart,
@@ -49,7 +49,7 @@ pub fn print_identity(
     out.push_str(version())?;
     print_number(out, " with --depth ", u64::from(identity.bounds.depth))?;
     print_number(out, " --steps ", u64::from(identity.bounds.steps))?;
-    print_named(
+    print_titled(
         out,
         ". Do not edit.\n   The sum of the chart is ",
         &digits,
@@ -73,9 +73,8 @@ fn print_sum_number(
         ++ spec.sum_number front.now chart.now between.now sum.now place) }
 {
     let digits = encode(alloc, &[sum[place + place], sum[place + place + 1]])?;
-    out.push_str(front)?;
-    out.push_str(chart)?;
-    print_number(out, "_SUM_", place as u64)?;
+    print_named(out, front, chart, "SUM_")?;
+    print_number(out, "", place as u64)?;
     out.push_str(between)?;
     out.push_str("0x")?;
     out.push_str(&digits)
@@ -115,7 +114,7 @@ pub(crate) fn print_sums(
     ensures { OnOk result (string_bytes out.new
         ≡ string_bytes out.old ++ spec.sums_text chart.now identity) }
 {
-    out.push_str("\n/* The sum of the chart, by 16 bits: the source compares it. */\n")?;
+    out.push_str("/* The sum of the chart, by 16 bits: the source compares it. */\n")?;
     print_sum_numbers(alloc, out, "enum { ", ", ", chart, " = ", &identity.sum)?;
     out.push_str(" };\n\n")
 }

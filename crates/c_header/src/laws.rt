@@ -13,7 +13,8 @@ ghost use Rattle.c_text.specs.Labels.{Labels, labels_for, row_labels, field_labe
 ghost use Rattle.c_header.specs.declared.paths.Form.TheVariants.{Label};
 ghost use Rattle.c_header.specs.Header.{struct_text};
 ghost use Rattle.c_header.specs.Paths.{path_text};
-ghost use Rattle.c_header.specs.Scope.{HasNamedTree, guard_label, scope_labels};
+ghost use Rattle.c_names.specs.Stems.{guard_of_chart};
+ghost use Rattle.c_header.specs.Scope.{HasNamedTree, scope_labels};
 ghost use Rattle.c_header.specs.Struct.{DeclaresStruct, IsAny, struct_fields, struct_rows};
 
 /// Different states of a chart have different names in C; and all names that its header and its
@@ -27,6 +28,14 @@ pub fn names_of_the_header_are_distinct()
         → AreDistinct (scope_labels chart K) }
 {}
 
+/// No name that the files of a chart give at file scope is one of those of a chart of another name.
+pub fn names_of_two_charts_are_different()
+    ensures { (one other : List ℕ) (K M : Shape) (i j : ℕ) → is_name one ≡ true
+        → is_name other ≡ true → one ≢ other → i < length (scope_labels one K)
+        → j < length (scope_labels other M)
+        → slice_index_or (scope_labels one K) i [] ≢ slice_index_or (scope_labels other M) j [] }
+{}
+
 /// None of these names is a keyword of C99.
 pub fn no_name_of_the_header_is_a_keyword()
     ensures { (chart : List ℕ) (K : Shape) (i : ℕ)
@@ -38,9 +47,9 @@ pub fn no_name_of_the_header_is_a_keyword()
 pub fn the_name_that_is_replaced_is_no_other()
     ensures members { (chart : List ℕ) (L : Labels) (i : ℕ)
         → i < length (row_labels ++ field_labels L)
-        → slice_index_or (row_labels ++ field_labels L) i [] ≢ guard_label chart }
+        → slice_index_or (row_labels ++ field_labels L) i [] ≢ guard_of_chart chart }
     ensures locals { (chart : List ℕ) (kind : Kind) (t : CType) (k : ℕ)
-        → local_label kind t k ≢ guard_label chart }
+        → local_label kind t k ≢ guard_of_chart chart }
 {}
 
 /// The header declares the struct of the file: with its fields and arrays in their order, of their

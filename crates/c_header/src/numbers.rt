@@ -22,7 +22,7 @@ pub(crate) fn print_events(
         out,
         "/* The events: those that ",
         chart,
-        "_react takes, and those that are emitted. */\n",
+        "react takes, and those that are emitted. */\n",
     )?;
     print_event_lines(out, chart, events)?;
     print_tick(out, chart, events)
@@ -33,7 +33,7 @@ fn print_tick(out: &mut String, chart: &str, events: &[EventDecl]) -> Result<(),
     ensures { OnOk result (string_bytes out.new
         ≡ string_bytes out.old ++ spec.tick_line chart.now events.now) }
 {
-    print_define(out, chart, "_", "TICK", events.len() as u64)
+    print_define(out, chart, "", "TICK", events.len() as u64)
 }
 
 /// Appends the numbers of events that come from outside or are emitted.
@@ -59,7 +59,7 @@ fn print_event(
 {
     match event.kind {
         EventKind::Input | EventKind::Output => {
-            print_define(out, chart, "_E_", event.name.text(), number as u64)
+            print_define(out, chart, "E_", event.name.text(), number as u64)
         }
         EventKind::Local => Ok(()),
     }
@@ -72,11 +72,11 @@ pub(crate) fn print_faults(out: &mut String, chart: &str) -> Result<(), AllocErr
         (string_bytes out.new ≡ string_bytes out.old ++ spec.faults_text chart.now) }
 {
     out.push_str("\n/* The faults. */\n")?;
-    print_define(out, chart, "_FAULT_", "NONE", 0)?;
-    print_define(out, chart, "_FAULT_", "DEPTH", 1)?;
-    print_define(out, chart, "_FAULT_", "STEPS", 2)?;
-    print_define(out, chart, "_FAULT_", "OVERFLOW", 3)?;
-    print_define(out, chart, "_FAULT_", "ZERO", 4)
+    print_define(out, chart, "FAULT_", "NONE", 0)?;
+    print_define(out, chart, "FAULT_", "DEPTH", 1)?;
+    print_define(out, chart, "FAULT_", "STEPS", 2)?;
+    print_define(out, chart, "FAULT_", "OVERFLOW", 3)?;
+    print_define(out, chart, "FAULT_", "ZERO", 4)
 }
 
 /// Appends the bounds, and how many entries `out[]` and `note[]` have.
@@ -94,11 +94,11 @@ pub(crate) fn print_bounds(
     out.push_str(
         "\n/* The bounds of an event: how deep sends nest, and how many steps it takes. */\n",
     )?;
-    print_define(out, chart, "_", "DEPTH", u64::from(bounds.depth))?;
-    print_define(out, chart, "_", "STEPS", u64::from(bounds.steps))?;
+    print_define(out, chart, "", "DEPTH", u64::from(bounds.depth))?;
+    print_define(out, chart, "", "STEPS", u64::from(bounds.steps))?;
     out.push_str("\n/* How many entries out[] and note[] have. */\n")?;
-    print_define(out, chart, "_", "OUTPUTS", u64::from(outputs))?;
-    print_define(out, chart, "_", "NOTES", notes)
+    print_define(out, chart, "", "OUTPUTS", u64::from(outputs))?;
+    print_define(out, chart, "", "NOTES", notes)
 }
 
 /// Appends how many functions of the source are open at once at most.
@@ -112,7 +112,25 @@ pub(crate) fn print_calls(
         ≡ string_bytes out.old ++ spec.calls_text chart.now calls) }
 {
     out.push_str(calls_comment(calls))?;
-    print_define(out, chart, "_", "CALLS", calls_number(calls))
+    print_define(out, chart, "", "CALLS", calls_number(calls))?;
+    print_recursion(out, chart, calls)
+}
+
+/// Appends that functions may call themselves only where the compiler is told that they may.
+fn print_recursion(out: &mut String, chart: &str, calls: Option<u32>) -> Result<(), AllocError>
+    ensures { OnOk result (string_bytes out.new
+        ≡ string_bytes out.old ++ spec.recursion_text chart.now calls) }
+{
+    let Some(_) = calls else {
+        print_named(out, "#if !defined(", chart, "MAY_RECURSE)\n")?;
+        return print_named(
+            out,
+            "#error \"functions may call themselves: where they may, define ",
+            chart,
+            "MAY_RECURSE\"\n#endif\n\n",
+        );
+    };
+    out.push_str("\n")
 }
 
 /// What the header says above that number.

@@ -6,6 +6,7 @@ ghost use Rattle.c_header.specs.Paths as spec;
 
 use actions::Names;
 use active_config::Shape;
+use c_names::print_doubled;
 use std::alloc::AllocError;
 
 /// How the path of a state is written.
@@ -69,29 +70,6 @@ fn print_part(out: &mut String, form: Form, name: &str) -> Result<(), AllocError
     match form {
         Form::Words => out.push_str(name),
         Form::Label => print_doubled(out, name),
-    }
-}
-
-/// Appends a name with each `_` doubled.
-#[tactic(auto, unfolding(crate::specs::Paths::doubled))]
-fn print_doubled(out: &mut String, name: &str) -> Result<(), AllocError>
-    ensures { OnOk result (string_bytes out.new ≡ string_bytes out.old ++ spec.doubled name.now) }
-{
-    for letter in name.chars() {
-        print_letter(out, letter)?;
-    }
-    Ok(())
-}
-
-/// Appends a letter of a name.
-fn print_letter(out: &mut String, letter: char) -> Result<(), AllocError>
-    ensures { OnOk result
-        (string_bytes out.new ≡ string_bytes out.old ++ spec.letter_text letter) }
-{
-    if letter == '_' {
-        out.push_str("__")
-    } else {
-        out.push(letter)
     }
 }
 

@@ -259,9 +259,9 @@ fn print_test_head(
     ensures { OnOk result (string_bytes out.new
         ≡ string_bytes out.old ++ spec.test_head chart.now (shape_seen shape.now) state) }
 {
-    print_named(out, "static inline bool ", chart, "_in_")?;
+    print_named(out, "static inline bool ", chart, "in_")?;
     print_path(out, Form::Label, shape.tree, shape.names, state)?;
-    print_named(out, "(const ", chart, "_chart *m)\n")
+    print_named(out, "(const ", chart, "chart *m)\n")
 }
 
 /// Appends the body of the test.

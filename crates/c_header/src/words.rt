@@ -2,10 +2,27 @@
 ghost use Rattle.std.specs.Prelude.{◌≡◌, ◌++◌, string_bytes, OnOk};
 ghost use Rattle.c_header.specs.Header as spec;
 
+use c_names::print_chart_name;
 use code_fields::print_number;
 use std::alloc::AllocError;
 
 /// Appends words, the chart's name, and other words.
+pub(crate) fn print_titled(
+    out: &mut String,
+    front: &str,
+    chart: &str,
+    back: &str,
+) -> Result<(), AllocError>
+    ensures { OnOk result (string_bytes out.new
+        ≡ string_bytes out.old ++ spec.titled_text front.now chart.now back.now) }
+{
+    out.push_str(front)?;
+    out.push_str(chart)?;
+    out.push_str(back)
+}
+
+/// Appends words, one of the chart's names in C, and other words: `back` begins with the word
+/// that stands after the chart's name and `_`.
 pub(crate) fn print_named(
     out: &mut String,
     front: &str,
@@ -16,8 +33,7 @@ pub(crate) fn print_named(
         ≡ string_bytes out.old ++ spec.named_text front.now chart.now back.now) }
 {
     out.push_str(front)?;
-    out.push_str(chart)?;
-    out.push_str(back)
+    print_chart_name(out, chart, back)
 }
 
 /// Appends the definition of a number.

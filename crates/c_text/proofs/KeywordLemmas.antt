@@ -1,12 +1,11 @@
 -- No name is a keyword.
-use Rattle.std.proofs.Common.{◌≡◌, ℕ, zero, suc, ◌-◌, Bool, true, false, ◌||◌, cond, List, [], ◌∷◌, ◌++◌}
+use Rattle.std.proofs.Common.{◌≡◌, ℕ, zero, suc, ◌-◌, ◌<◌, Bool, true, false, not, ◌||◌, cond, List, [], ◌∷◌, ◌++◌}
 use Rattle.std.proofs.Common.{length, map, get_or, refl, sym, ap, ◌∙◌, arith, ⊎_elim}
-use Rattle.std.specs.Prelude.{codes, decimal, reverse}
-use Rattle.std.specs.List.{list_any}
-use Rattle.std.specs.Str.{bytes_eq}
-use Rattle.std.proofs.lemmas.Bool.{cases_lt, cases_Bool, eq-eqb, and_from}
-use Rattle.std.proofs.lemmas.List.{get_or_append_left, get_or-append_right, get_or_past, length-map, reverse-append}
-use Rattle.std.proofs.lemmas.Slice.Eq.{bytes_eq-Decides}
+use Rattle.std.specs.Prelude.{codes, decimal, nat_le}
+use Rattle.std.proofs.lemmas.Bool.{cases_lt}
+use Rattle.std.proofs.lemmas.List.{get_or_append_left, get_or-append_right, get_or-map, get_or_past, length-append}
+use Rattle.std.proofs.lemmas.List.{length-map}
+use Rattle.std.proofs.lemmas.List.FromFn.{length-map-range_with_len}
 use Rattle.actions.specs.declared.names.Var.{Var}
 use Rattle.actions.specs.declared.names.VarKind.{VarKind}
 use Rattle.actions.specs.declared.names.VarKind.TheVariants.{Input, Output, Local}
@@ -14,15 +13,16 @@ use Rattle.c_subset.specs.declared.trees.Width.TheVariants.{W8, W16, W32, W64, W
 use Rattle.c_subset.specs.declared.trees.CType.{CType}
 use Rattle.c_subset.specs.declared.trees.CType.TheVariants.{Signed, Unsigned, Truth}
 use Rattle.c_subset.specs.Running.{same_type}
-use Rattle.c_text.specs.Distinct.{keywords, is_keyword}
+use Rattle.c_names.specs.Stems.{name_of_chart}
+use Rattle.c_text.specs.Distinct.{is_keyword}
 use Rattle.c_text.specs.declared.kinds.Kind.{Kind}
 use Rattle.c_text.specs.declared.kinds.Kind.TheVariants.{Procedure, Home, Noted, Floor, Outside}
 use Rattle.c_text.specs.Labels.{Labels, kind_word, datum_label, counter_labels, numbered_labels, state_labels}
-use Rattle.c_text.specs.Labels.{row_labels, field_labels, function_labels, other_labels, type_short, word_labels}
-use Rattle.c_text.specs.Labels.{noted_labels, local_label}
-use Rattle.c_text.proofs.LabelLemmas.{numbered-at, numbered-none}
+use Rattle.c_text.specs.Labels.{row_labels, field_labels, other_words, function_words, function_labels, type_short}
+use Rattle.c_text.specs.Labels.{word_labels, noted_labels, local_label}
+use Rattle.c_text.proofs.LabelLemmas.{numbered-at, numbered-none, numbered-first, numbered-past}
 use Rattle.c_text.proofs.MemberNames.{any_var, datum_at}
-use Rattle.c_text.proofs.FunctionNames.{starts}
+use Rattle.c_text.proofs.WordLemmas.{lines, mark, mark-decimal, is_last, is_free_word, name_free}
 
 -- ---- lists of names
 
@@ -103,78 +103,48 @@ members_free L = both_free row_labels (map datum_label L.names.vars ++ (counter_
 
 -- ---- functions
 
--- a text begins with itself
-starts_itself : (text more : List ℕ) → starts text (text ++ more) ≡ true
-unfolding starts
-starts_itself [] more = refl
-starts_itself (c ∷ cs) more = and_from _ _ (eq-eqb c c refl) (starts_itself cs more)
+-- the word of a function makes none
+pub words_of_functions_free : (procs i : ℕ) → i < length (function_words procs)
+    → is_free_word (get_or (function_words procs) i []) ≡ true
+unfolding lines mark
+words_of_functions_free procs i within = ⊎_elim
+    (λ li. ap is_free_word (numbered-first (codes "p") procs i other_words li) ∙ procedure_free i)
+    (λ pi. ap is_free_word (numbered-past (codes "p") procs i other_words pi) ∙ others_free (i - procs)
+    (omega (arith, pi, within, length-append (numbered_labels (codes "p") procs) other_words,
+    length-map-range_with_len (λ (k : ℕ). codes "p" ++ decimal k) 0 procs)))
+    (cases_lt i procs)
+  where
+    any : (b : Bool) → (b || true) ≡ true
+    any true = refl
+    any false = refl
 
--- a text ends otherwise, where its reverse begins otherwise
-ends_otherwise : (chart end other : List ℕ) → starts (reverse end) (reverse other) ≡ false
-    → bytes_eq (chart ++ end) other ≡ false
-ends_otherwise chart end other differs = ⊎_elim
-    (λ same. absurd (
-    let e : chart ++ end ≡ other = (bytes_eq-Decides (chart ++ end) other).0 same in
-    let begins : starts (reverse end) (reverse other) ≡ true =
-    ap (starts (reverse end)) (sym (ap reverse e) ∙ reverse-append chart end)
-    ∙ starts_itself (reverse end) (reverse chart) in
-    cc))
-    (λ no_one. no_one)
-    (cases_Bool (bytes_eq (chart ++ end) other))
+    procedure_free : (n : ℕ) → is_free_word (codes "p" ++ decimal n) ≡ true
+    procedure_free n =
+        ap (λ (m : ℕ). nat_le 1 (lines (codes "p" ++ decimal n)) || not (is_last m)) (mark-decimal 112 n)
+        ∙ any (nat_le 1 (lines (codes "p" ++ decimal n)))
 
--- neither of two is true, where one of them isn't
-left_false : (a b : Bool) → (a || b) ≡ false → a ≡ false
-left_false true b e = e
-left_false false b e = refl
-
-right_false : (a b : Bool) → (a || b) ≡ false → b ≡ false
-right_false true b e = absurd cc
-right_false false b e = e
-
-neither : (a b : Bool) → a ≡ false → b ≡ false → (a || b) ≡ false
-neither a b first second = ap (λ (x : Bool). x || b) first ∙ second
-
--- and of none of these, where all begin otherwise
-end_of_none : (chart end : List ℕ) (others : List (List ℕ))
-    → list_any (λ (other : List ℕ). starts (reverse end) (reverse other)) others ≡ false
-    → list_any (bytes_eq (chart ++ end)) others ≡ false
-end_of_none chart end [] differs = refl
-end_of_none chart end (other ∷ others) differs =
-    neither (bytes_eq (chart ++ end) other) (list_any (bytes_eq (chart ++ end)) others)
-    (ends_otherwise chart end other (left_false _ _ differs))
-    (end_of_none chart end others (right_false _ _ differs))
-
-start_free : (chart : List ℕ) → is_keyword (chart ++ codes "_start") ≡ false
-unfolding is_keyword starts
-start_free chart = end_of_none chart (codes "_start") keywords refl
-
-react_free : (chart : List ℕ) → is_keyword (chart ++ codes "_react") ≡ false
-unfolding is_keyword starts
-react_free chart = end_of_none chart (codes "_react") keywords refl
-
-others_free : (chart : List ℕ) → AreFree (other_labels chart)
-unfolding is_keyword
-others_free chart zero = refl
-others_free chart (suc zero) = refl
-others_free chart (suc (suc zero)) = refl
-others_free chart (suc (suc (suc zero))) = refl
-others_free chart (suc (suc (suc (suc zero)))) = refl
-others_free chart (suc (suc (suc (suc (suc zero))))) = refl
-others_free chart (suc (suc (suc (suc (suc (suc zero)))))) = refl
-others_free chart (suc (suc (suc (suc (suc (suc (suc zero))))))) = refl
-others_free chart (suc (suc (suc (suc (suc (suc (suc (suc zero)))))))) = start_free chart
-others_free chart (suc (suc (suc (suc (suc (suc (suc (suc (suc zero))))))))) = react_free chart
-others_free chart (suc (suc (suc (suc (suc (suc (suc (suc (suc (suc i)))))))))) = refl
-
-procedure_free : (k : ℕ) → is_keyword (codes "p" ++ decimal k) ≡ false
-unfolding is_keyword
-procedure_free k = refl
+    others_free : (j : ℕ) → j < length other_words → is_free_word (get_or other_words j []) ≡ true
+    others_free zero lt = refl
+    others_free (suc zero) lt = refl
+    others_free (suc (suc zero)) lt = refl
+    others_free (suc (suc (suc zero))) lt = refl
+    others_free (suc (suc (suc (suc zero)))) lt = refl
+    others_free (suc (suc (suc (suc (suc zero))))) lt = refl
+    others_free (suc (suc (suc (suc (suc (suc zero)))))) lt = refl
+    others_free (suc (suc (suc (suc (suc (suc (suc zero))))))) lt = refl
+    others_free (suc (suc (suc (suc (suc (suc (suc (suc zero)))))))) lt = refl
+    others_free (suc (suc (suc (suc (suc (suc (suc (suc (suc zero))))))))) lt = refl
+    others_free (suc (suc (suc (suc (suc (suc (suc (suc (suc (suc j)))))))))) lt = absurd (omega (arith, lt))
 
 -- no function's name is one
 pub functions_free : (L : Labels) → AreFree (function_labels L)
 unfolding function_labels
-functions_free L = both_free (numbered_labels (codes "p") L.procs) (other_labels L.chart)
-    (numbered_free (codes "p") L.procs procedure_free) (others_free L.chart)
+functions_free L i = ⊎_elim
+    (λ li. ap is_keyword (get_or-map (name_of_chart L.chart) (function_words L.procs) i [] [] li)
+    ∙ name_free L.chart (get_or (function_words L.procs) i []) (words_of_functions_free L.procs i li))
+    (λ pi. ap is_keyword (get_or_past (map (name_of_chart L.chart) (function_words L.procs)) i []
+    (omega (arith, pi, length-map (function_words L.procs) (name_of_chart L.chart)))) ∙ none_free)
+    (cases_lt i (length (function_words L.procs)))
 
 -- ---- locals
 

@@ -5,6 +5,7 @@ pub mod DepthLemmas
 pub mod LocalLemmas
 pub mod LocalNames
 pub mod MemberNames
+pub mod WordLemmas
 pub mod FunctionNames
 pub mod KeywordLemmas
 pub mod HiddenNames

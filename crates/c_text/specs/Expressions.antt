@@ -126,9 +126,9 @@ is_of_type t (Either a b) = false
 is_of_type t (Choose u e a b) = false
 
 -- the text of an expression, brought to a type
-unfoldable pub brought_text : CType → CExpr → List ℕ → List ℕ
-brought_text t e text =
-    if is_of_type t e then wrapped e text else cast_text t ++ wrapped e text
+unfoldable pub brought_text : List ℕ → CType → CExpr → List ℕ → List ℕ
+brought_text chart t e text =
+    if is_of_type t e then wrapped e text else cast_text chart t ++ wrapped e text
 
 -- ---- expressions
 
@@ -146,11 +146,11 @@ chained is_same a left word b right = first_text is_same a left ++ (word ++ wrap
 
 -- An expression in a function of that kind
 unfoldable pub bare : Labels → Kind → CExpr → List ℕ
-bare L kind (Const t z) = constant_text t z
+bare L kind (Const t z) = constant_text L.chart t z
 bare L kind (Field f) = codes "m->" ++ field_label L f
 bare L kind (Element a e) = codes "m->" ++ (row_label a ++ (codes "[" ++ (bare L kind e ++ codes "]")))
 bare L kind (Local t k) = local_label kind t k
-bare L kind (Cast t e) = cast_text t ++ wrapped e (bare L kind e)
+bare L kind (Cast t e) = cast_text L.chart t ++ wrapped e (bare L kind e)
 bare L kind (Minus e) = codes "-" ++ wrapped e (bare L kind e)
 bare L kind (Bang e) = codes "!" ++ wrapped e (bare L kind e)
 bare L kind (Calc op a b) = between a (bare L kind a) (arithmetic_word op) b (bare L kind b)
@@ -161,7 +161,7 @@ bare L kind (Both a b) = chained (is_both a) a (bare L kind a) (codes " && ") b 
 bare L kind (Either a b) = chained (is_either a) a (bare L kind a) (codes " || ") b (bare L kind b)
 bare L kind (Choose t e a b) =
     wrapped e (bare L kind e)
-    ++ (codes " ? " ++ (brought_text t a (bare L kind a) ++ (codes " : " ++ brought_text t b (bare L kind b))))
+    ++ (codes " ? " ++ (brought_text L.chart t a (bare L kind a) ++ (codes " : " ++ brought_text L.chart t b (bare L kind b))))
 
 -- an expression as an operand
 abbrev pub operand : Labels → Kind → CExpr → List ℕ
@@ -169,4 +169,4 @@ operand L kind e = wrapped e (bare L kind e)
 
 -- an expression brought to a type, as an operand
 abbrev pub brought : Labels → Kind → CType → CExpr → List ℕ
-brought L kind t e = brought_text t e (bare L kind e)
+brought L kind t e = brought_text L.chart t e (bare L kind e)

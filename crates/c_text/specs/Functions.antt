@@ -10,6 +10,7 @@ use Rattle.c_subset.specs.declared.trees.CType.{CType}
 use Rattle.c_subset.specs.declared.trees.CType.TheVariants.{Signed, Unsigned, Truth}
 use Rattle.c_subset.specs.Running.{same_type}
 use Rattle.c_subset.specs.Lines.{Line, Set, Store, StoreAt, Call, Select, If, Else, While, Close, Return}
+use Rattle.c_names.specs.Stems.{name_of_chart}
 use Rattle.c_text.specs.declared.kinds.Kind.{Kind}
 use Rattle.c_text.specs.declared.kinds.Kind.TheVariants.{Procedure, Home, Noted, Floor, Outside}
 use Rattle.c_text.specs.declared.locals.LocalName.{LocalName}
@@ -44,31 +45,40 @@ linkage_text Noted = codes "static "
 linkage_text (Floor w) = codes "static "
 linkage_text Outside = []
 
+-- what stands before the struct of a function that only reads it
+abbrev pub const_text : Kind → List ℕ
+const_text Procedure = []
+const_text Home = codes "const "
+const_text Noted = []
+const_text (Floor w) = []
+const_text Outside = []
+
 -- the struct as a parameter
 abbrev pub struct_parameter : Labels → Kind → List ℕ
-struct_parameter L kind = if takes_struct kind then L.chart ++ codes "_chart *m" else []
+struct_parameter L kind =
+    if takes_struct kind then const_text kind ++ (name_of_chart L.chart (codes "chart") ++ codes " *m") else []
 
 -- T x
-abbrev pub local_text : Kind → CType → ℕ → List ℕ
-local_text kind t k = type_text t ++ (32 ∷ local_label kind t k)
+abbrev pub local_text : Labels → Kind → CType → ℕ → List ℕ
+local_text L kind t k = type_text L.chart t ++ (32 ∷ local_label kind t k)
 
 -- a parameter
-unfoldable pub parameter_text : Kind → ℕ → CType → List ℕ
-parameter_text kind k t = comma kind k ++ local_text kind t k
+unfoldable pub parameter_text : Labels → Kind → ℕ → CType → List ℕ
+parameter_text L kind k t = comma kind k ++ local_text L kind t k
 
 -- the parameters from number k on
-abbrev pub parameters_text : Kind → ℕ → List CType → List ℕ
-parameters_text kind k [] = []
-parameters_text kind k (t ∷ ts) = parameter_text kind k t ++ parameters_text kind (k + 1) ts
+abbrev pub parameters_text : Labels → Kind → ℕ → List CType → List ℕ
+parameters_text L kind k [] = []
+parameters_text L kind k (t ∷ ts) = parameter_text L kind k t ++ parameters_text L kind (k + 1) ts
 
 -- (CHART_chart *m, T x, ..)
 unfoldable pub list_text : Labels → Kind → List CType → List ℕ
-list_text L kind ts = codes "(" ++ (struct_parameter L kind ++ (parameters_text kind 0 ts ++ codes ")"))
+list_text L kind ts = codes "(" ++ (struct_parameter L kind ++ (parameters_text L kind 0 ts ++ codes ")"))
 
 -- static T f(CHART_chart *m, T x, ..)
 unfoldable pub head_text : Labels → ℕ → CType → List CType → List ℕ
 head_text L f result ts =
-    linkage_text (function_kind L f) ++ (type_text result ++ (32 ∷ (function_label L f
+    linkage_text (function_kind L f) ++ (type_text L.chart result ++ (32 ∷ (function_label L f
     ++ list_text L (function_kind L f) ts)))
 
 -- the declaration of the function with that number
@@ -115,13 +125,13 @@ unfoldable pub locals_set : List CType → List Line → List LocalName
 locals_set ts xs = drop (length ts) (with_locals (parameters_from 0 ts) xs)
 
 -- T x;
-unfoldable pub declaration_text : Kind → LocalName → List ℕ
-declaration_text kind x = codes "    " ++ (local_text kind x.of x.number ++ (codes ";" ++ 10 ∷ []))
+unfoldable pub declaration_text : Labels → Kind → LocalName → List ℕ
+declaration_text L kind x = codes "    " ++ (local_text L kind x.of x.number ++ (codes ";" ++ 10 ∷ []))
 
 -- the declarations of locals
-abbrev pub declarations_text : Kind → List LocalName → List ℕ
-declarations_text kind [] = []
-declarations_text kind (x ∷ xs) = declaration_text kind x ++ declarations_text kind xs
+abbrev pub declarations_text : Labels → Kind → List LocalName → List ℕ
+declarations_text L kind [] = []
+declarations_text L kind (x ∷ xs) = declaration_text L kind x ++ declarations_text L kind xs
 
 -- ---- what is used
 
@@ -212,6 +222,6 @@ unused_text L kind lines =
 -- The function with that number
 unfoldable pub function_text : Labels → ℕ → CType → List CType → List Line → List ℕ
 function_text L f result ts lines = let kind = function_kind L f in
-    head_text L f result ts ++ (10 ∷ 123 ∷ 10 ∷ (declarations_text kind (locals_set ts lines)
+    head_text L f result ts ++ (10 ∷ 123 ∷ 10 ∷ (declarations_text L kind (locals_set ts lines)
     ++ (unread_text kind lines (parameters_from 0 ts)
     ++ (unused_text L kind lines ++ (lines_text L kind result 1 lines ++ (codes "}" ++ 10 ∷ []))))))

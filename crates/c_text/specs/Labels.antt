@@ -13,6 +13,7 @@ use Rattle.c_subset.specs.declared.trees.CType.TheVariants.{Signed, Unsigned, Tr
 use Rattle.c_subset.specs.Running.{same_type}
 use Rattle.c_functions.specs.Claims.{field_type}
 use Rattle.c_functions.specs.Layout.{or_count}
+use Rattle.c_names.specs.Stems.{name_of_chart}
 use Rattle.c_text.specs.declared.kinds.Kind.{Kind}
 use Rattle.c_text.specs.declared.kinds.Kind.TheVariants.{Procedure, Home, Noted, Floor, Outside}
 use Rattle.c_text.specs.declared.labels.Labels.{Labels as LabelsAt}
@@ -105,16 +106,19 @@ other_kinds =
 unfoldable pub function_kind : Labels → ℕ → Kind
 function_kind L f = if nat_lt f L.procs then Procedure else slice_index_or other_kinds (f - L.procs) Outside
 
--- the names of the functions after those of procedures
-abbrev pub other_labels : List ℕ → List (List ℕ)
-other_labels chart =
-    codes "is_on" ∷ codes "is_bare" ∷ codes "noted" ∷ codes "flow_div8" ∷ codes "flow_div16"
-    ∷ codes "flow_div32" ∷ codes "flow_div64" ∷ codes "flow_div128" ∷ (chart ++ codes "_start")
-    ∷ (chart ++ codes "_react") ∷ []
+-- the words of the functions after those of procedures
+abbrev pub other_words : List (List ℕ)
+other_words =
+    codes "is_on" ∷ codes "is_bare" ∷ codes "noted" ∷ codes "div8" ∷ codes "div16" ∷ codes "div32" ∷ codes "div64"
+    ∷ codes "div128" ∷ codes "start" ∷ codes "react" ∷ []
 
--- the names of all functions, in their order
+-- the words of all functions, in their order
+abbrev pub function_words : ℕ → List (List ℕ)
+function_words procs = numbered_labels (codes "p") procs ++ other_words
+
+-- the names of all functions: the chart's name and a word
 unfoldable pub function_labels : Labels → List (List ℕ)
-function_labels L = numbered_labels (codes "p") L.procs ++ other_labels L.chart
+function_labels L = map (name_of_chart L.chart) (function_words L.procs)
 
 -- the name of a function, empty where there is none
 unfoldable pub function_label : Labels → ℕ → List ℕ

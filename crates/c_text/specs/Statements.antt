@@ -44,11 +44,11 @@ depth_after d (While e) = d + 1
 depth_after d Close = d - 1
 depth_after d (Return e) = d
 
--- default: break; }
+-- default: break; }, with a comment
 unfoldable pub default_text : ℕ → List ℕ
 default_text d =
-    indent d ++ (codes "default:" ++ 10 ∷ (indent (d + 1) ++ (codes "break;" ++ 10 ∷ (indent d ++ (codes "}"
-    ++ 10 ∷ [])))))
+    (indent d ++ codes "default: /* Nothing is done for another number. */\n")
+    ++ ((indent (d + 1) ++ codes "break;\n") ++ (indent d ++ codes "}\n"))
 
 module _ (L : Labels) (kind : Kind) where
   -- what is stored in an object of that type; anything is brought to `bool` without a cast

@@ -18,14 +18,14 @@ const TWO_PARTS: u128 = 1 << 124;
 ///
 /// Source: C99, 6.4.4.1 and 7.18.4; in which of these forms is this project's choice.
 #[tactic(auto, unfolding(crate::specs::Types::constant_text))]
-pub fn print_constant(out: &mut String, of: CType, number: i128) -> Result<(), AllocError>
+pub fn print_constant(out: &mut String, chart: &str, of: CType, number: i128) -> Result<(), AllocError>
     ensures { OnOk result
-        (string_bytes out.new ≡ string_bytes out.old ++ spec.constant_text of number) }
+        (string_bytes out.new ≡ string_bytes out.old ++ spec.constant_text chart.now of number) }
 {
     match of {
         CType::Signed(_) | CType::Unsigned(_) => {
             out.push_str(narrow_word(of))?;
-            print_whole(out, of, number)
+            print_whole(out, chart, of, number)
         }
         CType::Truth => out.push_str(if number == 0 { "false" } else { "true" }),
     }
@@ -48,30 +48,30 @@ fn narrow_word(of: CType) -> &'static str
 
 /// Appends a whole number.
 #[tactic(auto, unfolding(crate::specs::Types::number_text))]
-fn print_whole(out: &mut String, of: CType, number: i128) -> Result<(), AllocError>
+fn print_whole(out: &mut String, chart: &str, of: CType, number: i128) -> Result<(), AllocError>
     ensures { OnOk result
-        (string_bytes out.new ≡ string_bytes out.old ++ spec.number_text of number) }
+        (string_bytes out.new ≡ string_bytes out.old ++ spec.number_text chart.now of number) }
 {
     let magnitude = number.unsigned_abs();
     if number < 0 {
-        print_negative(out, of, magnitude)
+        print_negative(out, chart, of, magnitude)
     } else {
-        print_magnitude(out, of, magnitude)
+        print_magnitude(out, chart, of, magnitude)
     }
 }
 
 /// Appends a number below 0 of that magnitude.
 #[tactic(auto, unfolding(crate::specs::Types::negative_text))]
-fn print_negative(out: &mut String, of: CType, magnitude: u128) -> Result<(), AllocError>
+fn print_negative(out: &mut String, chart: &str, of: CType, magnitude: u128) -> Result<(), AllocError>
     ensures { OnOk result
-        (string_bytes out.new ≡ string_bytes out.old ++ spec.negative_text of magnitude) }
+        (string_bytes out.new ≡ string_bytes out.old ++ spec.negative_text chart.now of magnitude) }
 {
     out.push_str("(-")?;
     if is_least(of, magnitude) {
-        print_magnitude(out, of, magnitude.saturating_sub(1))?;
+        print_magnitude(out, chart, of, magnitude.saturating_sub(1))?;
         out.push_str(" - 1)")
     } else {
-        print_magnitude(out, of, magnitude)?;
+        print_magnitude(out, chart, of, magnitude)?;
         out.push_str(")")
     }
 }
@@ -101,9 +101,9 @@ fn least_magnitude(width: Width) -> u128
 
 /// Appends a number that isn't below 0.
 #[tactic(auto, unfolding(crate::specs::Types::magnitude_text))]
-fn print_magnitude(out: &mut String, of: CType, number: u128) -> Result<(), AllocError>
+fn print_magnitude(out: &mut String, chart: &str, of: CType, number: u128) -> Result<(), AllocError>
     ensures { OnOk result
-        (string_bytes out.new ≡ string_bytes out.old ++ spec.magnitude_text of number) }
+        (string_bytes out.new ≡ string_bytes out.old ++ spec.magnitude_text chart.now of number) }
 {
     match of {
         CType::Signed(Width::W8 | Width::W16 | Width::W32) | CType::Truth => {
@@ -112,7 +112,7 @@ fn print_magnitude(out: &mut String, of: CType, number: u128) -> Result<(), Allo
         CType::Unsigned(Width::W8 | Width::W16 | Width::W32) => print_between(out, "", number, "u"),
         CType::Signed(Width::W64) => print_between(out, "INT64_C(", number, ")"),
         CType::Unsigned(Width::W64) => print_between(out, "UINT64_C(", number, ")"),
-        CType::Signed(Width::W128) | CType::Unsigned(Width::W128) => print_parts(out, of, number),
+        CType::Signed(Width::W128) | CType::Unsigned(Width::W128) => print_parts(out, chart, of, number),
     }
 }
 
@@ -132,40 +132,40 @@ fn print_between(
 
 /// Appends a number of 128 bits.
 #[tactic(auto, unfolding(crate::specs::Types::parts_text))]
-fn print_parts(out: &mut String, of: CType, number: u128) -> Result<(), AllocError>
+fn print_parts(out: &mut String, chart: &str, of: CType, number: u128) -> Result<(), AllocError>
     ensures { OnOk result
-        (string_bytes out.new ≡ string_bytes out.old ++ spec.parts_text of number) }
+        (string_bytes out.new ≡ string_bytes out.old ++ spec.parts_text chart.now of number) }
 {
     if number < TWO_PARTS {
-        print_two_parts(out, of, number)
+        print_two_parts(out, chart, of, number)
     } else {
         out.push_str("(")?;
-        print_two_parts(out, of, number / PART)?;
+        print_two_parts(out, chart, of, number / PART)?;
         print_last_part(out, number % PART)
     }
 }
 
 /// Appends a number of 128 bits that is below 2^124.
 #[tactic(auto, unfolding(crate::specs::Types::two_parts_text))]
-fn print_two_parts(out: &mut String, of: CType, number: u128) -> Result<(), AllocError>
+fn print_two_parts(out: &mut String, chart: &str, of: CType, number: u128) -> Result<(), AllocError>
     ensures { OnOk result
-        (string_bytes out.new ≡ string_bytes out.old ++ spec.two_parts_text of number) }
+        (string_bytes out.new ≡ string_bytes out.old ++ spec.two_parts_text chart.now of number) }
 {
     if number < PART {
-        print_part(out, of, number)
+        print_part(out, chart, of, number)
     } else {
         out.push_str("(")?;
-        print_part(out, of, number / PART)?;
+        print_part(out, chart, of, number / PART)?;
         print_last_part(out, number % PART)
     }
 }
 
 /// Appends the first part of a number.
-fn print_part(out: &mut String, of: CType, number: u128) -> Result<(), AllocError>
+fn print_part(out: &mut String, chart: &str, of: CType, number: u128) -> Result<(), AllocError>
     ensures { OnOk result
-        (string_bytes out.new ≡ string_bytes out.old ++ spec.part_text of number) }
+        (string_bytes out.new ≡ string_bytes out.old ++ spec.part_text chart.now of number) }
 {
-    print_cast(out, of)?;
+    print_cast(out, chart, of)?;
     print_between(out, "INT64_C(", number, ")")
 }
 

@@ -158,7 +158,7 @@ pub fn print_bare(
         ++ spec.bare (labels_of labels.now) kind (expr_of expr.now)) }
 {
     match expr {
-        CExpr::Const(of, number) => print_constant(out, *of, *number),
+        CExpr::Const(of, number) => print_constant(out, labels.chart, *of, *number),
         CExpr::Field(field) => {
             out.push_str("m->")?;
             print_field_label(out, labels, *field)
@@ -178,7 +178,7 @@ pub fn print_bare(
             print_local_label(out, kind, local)
         }
         CExpr::Cast(to, inner) => {
-            print_cast(out, *to)?;
+            print_cast(out, labels.chart, *to)?;
             print_operand(out, labels, kind, inner)
         }
         CExpr::Minus(inner) => {
@@ -299,7 +299,7 @@ pub fn print_brought(
     if is_of_type(to, expr) {
         print_operand(out, labels, kind, expr)
     } else {
-        print_cast(out, to)?;
+        print_cast(out, labels.chart, to)?;
         print_operand(out, labels, kind, expr)
     }
 }

@@ -2,9 +2,11 @@
 ghost use Rattle.std.specs.Prelude.{◌≡◌, ◌+◌, ◌++◌, [], replicate, string_bytes};
 ghost use Rattle.std.specs.Prelude.{slice_index_or, OnOk};
 ghost use Rattle.c_text.specs.Labels as spec;
+ghost use Rattle.c_text.specs.Types.{type_text};
 
 use crate::labels::Labels;
 use crate::numbers::print_number;
+use crate::types::print_type;
 use actions::{Var, VarKind};
 use c_subset::{CType, Width};
 use std::alloc::AllocError;
@@ -83,6 +85,19 @@ fn print_state_label(out: &mut String, labels: &Labels<'_>, place: usize) -> Res
     } else {
         Ok(())
     }
+}
+
+/// Appends the type of a field.
+pub fn print_field_type(
+    out: &mut String,
+    labels: &Labels<'_>,
+    field: u32,
+) -> Result<(), AllocError>
+    ensures { OnOk result (string_bytes out.new ≡ string_bytes out.old
+        ++ type_text (spec.labels_of labels.now).chart
+        (spec.type_of_field (spec.labels_of labels.now) field)) }
+{
+    print_type(out, labels.chart, field_type(labels, field))
 }
 
 /// The type of a field, `uint32_t` where there is none.

@@ -14,6 +14,7 @@ use crate::reading::{any_line_reads, any_line_uses_struct, has_cases, is_same_lo
 use crate::statements::{comma, local_of, print_lines};
 use crate::types::print_type;
 use c_functions::WORD;
+use c_names::print_chart_name;
 use c_subset::{CType, Function, Line};
 use std::alloc::{AllocError, Global};
 
@@ -91,7 +92,7 @@ fn print_head(
 {
     let kind = function_kind(labels, number);
     out.push_str(linkage_word(kind))?;
-    print_type(out, gives)?;
+    print_type(out, labels.chart, gives)?;
     out.push_str(" ")?;
     print_function_label(out, labels, number)?;
     print_list(out, labels, kind, parameters)
@@ -110,7 +111,7 @@ fn print_list(
 {
     out.push_str("(")?;
     print_struct_parameter(out, labels, kind)?;
-    print_parameters(out, kind, parameters)?;
+    print_parameters(out, labels, kind, parameters)?;
     out.push_str(")")
 }
 
@@ -124,40 +125,67 @@ fn print_struct_parameter(
         ++ spec.struct_parameter (labels_of labels.now) kind) }
 {
     if takes_struct(kind) {
-        out.push_str(labels.chart)?;
-        out.push_str("_chart *m")
+        out.push_str(const_word(kind))?;
+        print_chart_name(out, labels.chart, "chart")?;
+        out.push_str(" *m")
     } else {
         Ok(())
     }
 }
 
+/// What stands before the struct of a function that only reads it.
+fn const_word(kind: Kind) -> &'static str
+    ensures { result.now ≡ spec.const_text kind }
+{
+    match kind {
+        Kind::Home => "const ",
+        Kind::Procedure | Kind::Noted | Kind::Floor(_) | Kind::Outside => "",
+    }
+}
+
 /// Appends the parameters.
-fn print_parameters(out: &mut String, kind: Kind, parameters: &[CType]) -> Result<(), AllocError>
+fn print_parameters(
+    out: &mut String,
+    labels: &Labels<'_>,
+    kind: Kind,
+    parameters: &[CType],
+) -> Result<(), AllocError>
     ensures { OnOk result (string_bytes out.new ≡ string_bytes out.old
-        ++ spec.parameters_text kind 0 parameters.now) }
+        ++ spec.parameters_text (labels_of labels.now) kind 0 parameters.now) }
 {
     for (number, of) in parameters.iter().enumerate() {
-        print_parameter(out, kind, number, *of)?;
+        print_parameter(out, labels, kind, number, *of)?;
     }
     Ok(())
 }
 
 /// Appends a parameter.
 #[tactic(auto, unfolding(crate::specs::Functions::parameter_text))]
-fn print_parameter(out: &mut String, kind: Kind, number: usize, of: CType) -> Result<(), AllocError>
-    ensures { OnOk result
-        (string_bytes out.new ≡ string_bytes out.old ++ spec.parameter_text kind number of) }
+fn print_parameter(
+    out: &mut String,
+    labels: &Labels<'_>,
+    kind: Kind,
+    number: usize,
+    of: CType,
+) -> Result<(), AllocError>
+    ensures { OnOk result (string_bytes out.new ≡ string_bytes out.old
+        ++ spec.parameter_text (labels_of labels.now) kind number of) }
 {
     out.push_str(comma(kind, number))?;
-    print_typed(out, kind, LocalName { of, number })
+    print_typed(out, labels, kind, LocalName { of, number })
 }
 
 /// Appends the type and the name of a local.
-fn print_typed(out: &mut String, kind: Kind, local: LocalName) -> Result<(), AllocError>
-    ensures { OnOk result (string_bytes out.new
-        ≡ string_bytes out.old ++ spec.local_text kind local.of local.number) }
+fn print_typed(
+    out: &mut String,
+    labels: &Labels<'_>,
+    kind: Kind,
+    local: LocalName,
+) -> Result<(), AllocError>
+    ensures { OnOk result (string_bytes out.new ≡ string_bytes out.old
+        ++ spec.local_text (labels_of labels.now) kind local.of local.number) }
 {
-    print_type(out, local.of)?;
+    print_type(out, labels.chart, local.of)?;
     out.push_str(" ")?;
     print_local_label(out, kind, local)
 }
@@ -236,24 +264,34 @@ fn parameters_of(alloc: Global, types: &[CType]) -> Result<Vec<LocalName>, Alloc
 }
 
 /// Appends the declarations of locals.
-fn print_declarations(out: &mut String, kind: Kind, locals: &[LocalName]) -> Result<(), AllocError>
+fn print_declarations(
+    out: &mut String,
+    labels: &Labels<'_>,
+    kind: Kind,
+    locals: &[LocalName],
+) -> Result<(), AllocError>
     ensures { OnOk result (string_bytes out.new ≡ string_bytes out.old
-        ++ spec.declarations_text kind locals.now) }
+        ++ spec.declarations_text (labels_of labels.now) kind locals.now) }
 {
     for local in locals {
-        print_declaration(out, kind, *local)?;
+        print_declaration(out, labels, kind, *local)?;
     }
     Ok(())
 }
 
 /// Appends the declaration of a local.
 #[tactic(auto, unfolding(crate::specs::Functions::declaration_text))]
-fn print_declaration(out: &mut String, kind: Kind, local: LocalName) -> Result<(), AllocError>
-    ensures { OnOk result
-        (string_bytes out.new ≡ string_bytes out.old ++ spec.declaration_text kind local) }
+fn print_declaration(
+    out: &mut String,
+    labels: &Labels<'_>,
+    kind: Kind,
+    local: LocalName,
+) -> Result<(), AllocError>
+    ensures { OnOk result (string_bytes out.new ≡ string_bytes out.old
+        ++ spec.declaration_text (labels_of labels.now) kind local) }
 {
     out.push_str("    ")?;
-    print_typed(out, kind, local)?;
+    print_typed(out, labels, kind, local)?;
     out.push_str(";\n")
 }
 
@@ -320,11 +358,12 @@ fn print_opening_lines(
     lines: &[Line],
 ) -> Result<(), AllocError>
     ensures { OnOk result (string_bytes out.new ≡ string_bytes out.old
-        ++ (spec.declarations_text kind (spec.locals_set types.now (lines_in lines.now))
+        ++ (spec.declarations_text (labels_of labels.now) kind
+        (spec.locals_set types.now (lines_in lines.now))
         ++ (spec.unread_text kind (lines_in lines.now) (spec.parameters_from 0 types.now)
         ++ spec.unused_text (labels_of labels.now) kind (lines_in lines.now)))) }
 {
-    print_locals_set(alloc, out, kind, types, lines)?;
+    print_locals_set(alloc, out, labels, kind, types, lines)?;
     print_unread_parameters(alloc, out, kind, types, lines)?;
     print_unused(out, labels, kind, lines)
 }
@@ -334,16 +373,18 @@ fn print_opening_lines(
 fn print_locals_set(
     alloc: Global,
     out: &mut String,
+    labels: &Labels<'_>,
     kind: Kind,
     types: &[CType],
     lines: &[Line],
 ) -> Result<(), AllocError>
     ensures { OnOk result (string_bytes out.new ≡ string_bytes out.old
-        ++ spec.declarations_text kind (spec.locals_set types.now (lines_in lines.now))) }
+        ++ spec.declarations_text (labels_of labels.now) kind
+        (spec.locals_set types.now (lines_in lines.now))) }
 {
     let mut locals = parameters_of(alloc, types)?;
     add_locals(&mut locals, lines)?;
-    print_declarations(out, kind, &locals[types.len()..])
+    print_declarations(out, labels, kind, &locals[types.len()..])
 }
 
 /// Appends a use of each parameter that no line reads.

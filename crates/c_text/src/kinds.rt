@@ -1,9 +1,11 @@
 //! What functions are for, and their names.
-ghost use Rattle.std.specs.Prelude.{◌≡◌, ◌++◌, string_bytes, slice_index_or, OnOk, []};
+ghost use Rattle.std.specs.Prelude.{◌≡◌, ◌++◌, string_bytes, slice_get, slice_index_or, OnOk};
+ghost use Rattle.std.specs.Option.{option_copied};
 ghost use Rattle.c_text.specs.Labels as spec;
 
 use crate::labels::Labels;
 use crate::numbers::print_number;
+use c_names::print_chart_name;
 use c_subset::Width;
 use std::alloc::AllocError;
 
@@ -72,37 +74,31 @@ pub fn print_function_label(
         ++ spec.function_label (spec.labels_of labels.now) function) }
 {
     if function < labels.procs {
-        print_number(out, "p", u128::from(function))
+        print_chart_name(out, labels.chart, "p")?;
+        print_number(out, "", u128::from(function))
     } else {
-        print_other_label(out, labels.chart, function - labels.procs)
+        match other_word(function - labels.procs) {
+            Some(word) => print_chart_name(out, labels.chart, word),
+            None => Ok(()),
+        }
     }
 }
 
-/// Appends the name of a function after those of procedures.
-fn print_other_label(out: &mut String, chart: &str, place: u32) -> Result<(), AllocError>
-    ensures { OnOk result (string_bytes out.new ≡ string_bytes out.old
-        ++ slice_index_or (spec.other_labels chart.now) place []) }
+/// The word of a function after those of procedures, by its place among these.
+fn other_word(place: u32) -> Option<&'static str>
+    ensures { option_copied result ≡ slice_get spec.other_words place }
 {
     match place {
-        0 => out.push_str("is_on"),
-        1 => out.push_str("is_bare"),
-        2 => out.push_str("noted"),
-        3 => out.push_str("flow_div8"),
-        4 => out.push_str("flow_div16"),
-        5 => out.push_str("flow_div32"),
-        6 => out.push_str("flow_div64"),
-        7 => out.push_str("flow_div128"),
-        8 => print_call_label(out, chart, "_start"),
-        9 => print_call_label(out, chart, "_react"),
-        _ => Ok(()),
+        0 => Some("is_on"),
+        1 => Some("is_bare"),
+        2 => Some("noted"),
+        3 => Some("div8"),
+        4 => Some("div16"),
+        5 => Some("div32"),
+        6 => Some("div64"),
+        7 => Some("div128"),
+        8 => Some("start"),
+        9 => Some("react"),
+        _ => None,
     }
-}
-
-/// Appends the name of a call from outside.
-fn print_call_label(out: &mut String, chart: &str, word: &str) -> Result<(), AllocError>
-    ensures { OnOk result
-        (string_bytes out.new ≡ string_bytes out.old ++ (chart.now ++ word.now)) }
-{
-    out.push_str(chart)?;
-    out.push_str(word)
 }

@@ -3,8 +3,8 @@
 //! Read `specs/Labels.antt`, `specs/Types.antt`, `specs/Expressions.antt`, `specs/Statements.antt`
 //! and `specs/Functions.antt`: what each thing is called, and how it is written.
 //! docs/C_SUBSET.md says the same in words. The public calls are `print_prototype` and
-//! `print_function`, and for a header `print_field_label`, `print_type`, `print_test`, `is_or`. The
-//! laws say that names are pairwise different and no keywords (`specs/Distinct.antt`), and that
+//! `print_function`, and for a header `print_field_label`, `print_field_type`, `print_test`, `is_or`.
+//! The laws say that names are pairwise different and no keywords (`specs/Distinct.antt`), and that
 //! fields and declarations are those of the file of code.
 #![tactic(auto)]
 
@@ -21,9 +21,8 @@ mod reading;
 mod statements;
 mod types;
 
-pub use constants::print_constant;
 pub use expressions::print_test;
-pub use fields::{field_type, print_field_label};
+pub use fields::{print_field_label, print_field_type};
 pub use functions::{print_function, print_prototype};
 pub use kinds::{Kind, function_kind, print_function_label};
 pub use labels::{Labels, is_or};
@@ -31,4 +30,3 @@ pub use laws::{
     declarations_are_heads, fields_are_those_of_the_struct, names_are_distinct,
     no_local_hides_a_function, no_name_is_a_keyword,
 };
-pub use types::print_type;

@@ -218,12 +218,13 @@ fn print_default(out: &mut String, depth: usize) -> Result<(), AllocError>
     requires { depth < usize.MAX }
     ensures { OnOk result (string_bytes out.new ≡ string_bytes out.old ++ spec.default_text depth) }
 {
-    print_indent(out, depth)?;
-    out.push_str("default:\n")?;
-    print_indent(out, depth + 1)?;
-    out.push_str("break;\n")?;
-    print_indent(out, depth)?;
-    out.push_str("}\n")
+    print_words(
+        out,
+        depth,
+        "default: /* Nothing is done for another number. */\n",
+    )?;
+    print_words(out, depth + 1, "break;\n")?;
+    print_words(out, depth, "}\n")
 }
 
 /// Appends a line that opens a block: a word, an expression and a brace.

@@ -5,6 +5,7 @@ ghost use Rattle.c_subset.specs.Running.{same_type};
 ghost use Rattle.c_text.specs.Expressions.{is_truth};
 ghost use Rattle.c_text.specs.Types as spec;
 
+use c_names::print_chart_name;
 use c_subset::{CType, Width};
 use std::alloc::AllocError;
 
@@ -49,55 +50,53 @@ pub fn is_truth(of: CType) -> bool
     }
 }
 
-/// The name of a type. Those of 128 bits are names that the file defines.
-fn type_word(of: CType) -> &'static str
-    ensures { result.now ≡ spec.type_text of }
+/// Appends the name of a signed type.
+fn print_signed(out: &mut String, chart: &str, width: Width) -> Result<(), AllocError>
+    ensures { OnOk result (string_bytes out.new
+        ≡ string_bytes out.old ++ spec.type_text chart.now (CType.Signed width)) }
+{
+    match width {
+        Width::W8 => out.push_str("int8_t"),
+        Width::W16 => out.push_str("int16_t"),
+        Width::W32 => out.push_str("int32_t"),
+        Width::W64 => out.push_str("int64_t"),
+        Width::W128 => print_chart_name(out, chart, "int128"),
+    }
+}
+
+/// Appends the name of an unsigned type.
+fn print_unsigned(out: &mut String, chart: &str, width: Width) -> Result<(), AllocError>
+    ensures { OnOk result (string_bytes out.new
+        ≡ string_bytes out.old ++ spec.type_text chart.now (CType.Unsigned width)) }
+{
+    match width {
+        Width::W8 => out.push_str("uint8_t"),
+        Width::W16 => out.push_str("uint16_t"),
+        Width::W32 => out.push_str("uint32_t"),
+        Width::W64 => out.push_str("uint64_t"),
+        Width::W128 => print_chart_name(out, chart, "uint128"),
+    }
+}
+
+/// Appends the name of a type. Source: C99, 7.18.1.1 and 7.16. Types of 128 bits have names with
+/// the chart's, which its source defines.
+pub fn print_type(out: &mut String, chart: &str, of: CType) -> Result<(), AllocError>
+    ensures { OnOk result
+        (string_bytes out.new ≡ string_bytes out.old ++ spec.type_text chart.now of) }
 {
     match of {
-        CType::Signed(width) => signed_word(width),
-        CType::Unsigned(width) => unsigned_word(width),
-        CType::Truth => "bool",
+        CType::Signed(width) => print_signed(out, chart, width),
+        CType::Unsigned(width) => print_unsigned(out, chart, width),
+        CType::Truth => out.push_str("bool"),
     }
-}
-
-/// The name of a signed type.
-fn signed_word(width: Width) -> &'static str
-    ensures { result.now ≡ spec.type_text (CType.Signed width) }
-{
-    match width {
-        Width::W8 => "int8_t",
-        Width::W16 => "int16_t",
-        Width::W32 => "int32_t",
-        Width::W64 => "int64_t",
-        Width::W128 => "flow_int128",
-    }
-}
-
-/// The name of an unsigned type.
-fn unsigned_word(width: Width) -> &'static str
-    ensures { result.now ≡ spec.type_text (CType.Unsigned width) }
-{
-    match width {
-        Width::W8 => "uint8_t",
-        Width::W16 => "uint16_t",
-        Width::W32 => "uint32_t",
-        Width::W64 => "uint64_t",
-        Width::W128 => "flow_uint128",
-    }
-}
-
-/// Appends the name of a type. Source: C99, 7.18.1.1 and 7.16; of 128 bits names of the file.
-pub fn print_type(out: &mut String, of: CType) -> Result<(), AllocError>
-    ensures { OnOk result (string_bytes out.new ≡ string_bytes out.old ++ spec.type_text of) }
-{
-    out.push_str(type_word(of))
 }
 
 /// Appends `(T)`.
-pub fn print_cast(out: &mut String, to: CType) -> Result<(), AllocError>
-    ensures { OnOk result (string_bytes out.new ≡ string_bytes out.old ++ spec.cast_text to) }
+pub fn print_cast(out: &mut String, chart: &str, to: CType) -> Result<(), AllocError>
+    ensures { OnOk result
+        (string_bytes out.new ≡ string_bytes out.old ++ spec.cast_text chart.now to) }
 {
     out.push_str("(")?;
-    print_type(out, to)?;
+    print_type(out, chart, to)?;
     out.push_str(")")
 }

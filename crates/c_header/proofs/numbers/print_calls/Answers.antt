@@ -6,7 +6,7 @@ use Rattle.c_header.proofs.numbers.print_calls.Goals as goal
 pub returns : goal.returns
 unfolding calls_text
 returns c =
-    last _ _ _ _ c.print_define.ensures
+    last _ _ _ _ c.print_recursion.ensures
     (rw (
       c.in_ok-push_str.ensures.bytes,
       c.calls_number.ensures,

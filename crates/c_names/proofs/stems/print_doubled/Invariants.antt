@@ -1,7 +1,7 @@
 use Rattle.std.proofs.Common.{◌≡◌, ◌++◌, flat_map}
 use Rattle.std.specs.Prelude.{string_bytes}
-use Rattle.c_header.specs.Paths.{letter_text}
-use Rattle.c_header.proofs.paths.print_doubled.Given as goal
+use Rattle.c_names.specs.Stems.{letter_text}
+use Rattle.c_names.proofs.stems.print_doubled.Given as goal
 
 -- the letters so far are printed
 abbrev pub invariant-loop-letter : goal.invariant-loop-letter

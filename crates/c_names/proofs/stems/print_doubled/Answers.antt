@@ -2,8 +2,8 @@ use Rattle.std.proofs.Common.{◌++◌, flat_map, sym, ap, ◌∙◌, map-id}
 use Rattle.std.specs.Prelude.{string_bytes}
 use Rattle.std.proofs.lemmas.Iterator.{YieldsList-from_chars}
 use Rattle.std.proofs.lemmas.Iterator.Consumers.{YieldsList-end}
-use Rattle.c_header.specs.Paths.{letter_text, doubled}
-use Rattle.c_header.proofs.paths.print_doubled.Goals as goal
+use Rattle.c_names.specs.Stems.{letter_text, doubled}
+use Rattle.c_names.proofs.stems.print_doubled.Goals as goal
 
 pub returns : goal.returns
 unfolding doubled

@@ -9,7 +9,7 @@ TEMPORAL = {
     'after': '`outer EVENT [n >= COUNT] -> S;`',
     'before': '`outer EVENT [n < COUNT] -> S;`',
     'at': '`outer EVENT [n == COUNT] -> S;`',
-    'every': '`inner EVENT [n >= COUNT] { n = 0; a; } -> @each;` with `junction each { [false] -> @each; }`',
+    'every': '`inner EVENT [n >= COUNT] { n = 0; a; } -> @next;` with `junction next { [false] -> @counted; }`',
     'temporalCount': 'n',
     'elapsed': 'n',
 }

@@ -15,7 +15,7 @@ FREE = r'(?!(?:%s)\b)' % '|'.join(sorted(RESERVED))
 PATH = r'([A-Za-z]\w*(?:/[A-Za-z]\w*)*)'
 UNTIL = r'\s*([^;}\n]*?)\s*(?:[;}\n]|$)'
 TWO_TRANSITIONS = 'write it twice, `outer {0} .. -> S;` and the same with the other event: a transition names one event at most'
-ON = 'write `inner {0} {{ {1}; }} -> @on_{0};` and `junction on_{0} {{ [false] -> @on_{0}; }}`'
+ON = 'write `inner {0} {{ {1}; }} -> @next;`, `junction next {{ [false] -> @never; }}` and `junction never {{ }}`'
 IF = ('there is no if in an action: write a junction with a transition for each way, '
       '`junction test {{ [c] {{ a; }} -> S; {{ b; }} -> S; }}`; in place of a during action write `inner -> @test;` in the state, '
       'with `-> @end;` in place of `-> S;`, and `junction end {{ }}`')

@@ -26,8 +26,8 @@ def is_code(text):
 
 
 def chart_messages(text):
-    """All that is told of a chart text: the first fault of the reader, and where that is of a number, those of all numbers after it;
-    or all faults of names, and those of types that don't hang on them; or all faults of the first later pass that has any."""
+    """All that is told of a chart text: the first fault of the reader, and where that is of a number, those of all numbers after
+    it; or all faults of names, and those of types that don't hang on them; or all faults of the first later pass that has any."""
     try:
         tree = read_chart(text)
     except Fault as fault:

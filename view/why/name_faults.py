@@ -154,7 +154,8 @@ def state_as_event(chart, name, at):
     goal = transition.destination
     arrow = '-> S' if goal is None else '-> @%s' % goal.name if isinstance(goal, Junction) else '-> %s' % goal.name
     place = '' if state.name == name else ' in %s' % name
-    return said, ('write: `%s %s;`%s: a transition stands in the state that it leaves, and doesn\'t name it' % (kind, arrow, place),)
+    return said, ('write: `%s %s;`%s: a transition stands in the state that it leaves, and doesn\'t name it' % (
+        kind, arrow, place),)
 
 
 def stands_as_flag(text, name):

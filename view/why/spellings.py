@@ -258,7 +258,7 @@ def arrow_advice(text, after):
 
 
 def kind_of(text, name):
-    """How an event or a datum of that name is declared in a text that may have faults: `event local`, `input` and so on, or None."""
+    """How an event or a datum of that name is declared in a text that may have faults, as `event local` or `input`, or None."""
     found = re.search(r'\b(event\s+)?(input|local|output)\s+%s\b' % name, text)
     return found and ('event ' if found[1] else '') + found[2]
 

@@ -6,8 +6,10 @@
 A case is a chart of random_charts.py with an event file. flowwhy explains whatever PROGRAM refuses of it, and its first message
 must be that of PROGRAM's line. Of an accepted chart flowlint gives its warnings, and then the chart runs over random event files
 by the rules: no transition may be enabled that flowlint calls never taken, no state be entered and no junction with transitions
-be visited that it calls never reached; a search that comes to a junction which it calls endless must end with a fault. flowtrace
-must give back each trace. It writes counts, and ends with status 1 where anything is wrong."""
+be visited that it calls never reached; a search that comes to a junction which it calls endless must end with a fault; no condition
+may be otherwise than it says that it always is; no during action may run that it calls never run, and no state beside one be entered
+of which it says that nothing leaves it. flowtrace must give back each trace. It writes counts, and ends with status 1 where
+anything is wrong."""
 import os
 import random
 import sys
@@ -19,20 +21,43 @@ import chart_rules as rules                                                     
 import programs                                                                   # noqa: E402
 from chart_syntax import WITH_HISTORY                                             # noqa: E402
 from checking.trace_rows import round_trip                                        # noqa: E402
+from lint.conditions import Conditions                                            # noqa: E402
 from lint.cycles import endless                                                   # noqa: E402
-from lint.dead import never_taken                                                 # noqa: E402
+from lint.dead import never_run, never_taken                                      # noqa: E402
 from lint.reach import Reached                                                    # noqa: E402
 from lint.warnings import warnings                                                # noqa: E402
+from lint.ways import without_way_out                                             # noqa: E402
 from random_charts import event_file, made_case                                   # noqa: E402
 from why.answer import answer                                                     # noqa: E402
 
 
 class Noting(rules.Rules):
-    """The rules, which note the transitions that they try and those that are enabled."""
+    """The rules, which note the transitions that they try and those that are enabled, and what contradicts what flowlint says."""
 
-    def __init__(self, *given):
-        super().__init__(*given)
-        self.tried, self.enabled = set(), set()
+    def __init__(self, chart, depth, steps, said):
+        super().__init__(chart, depth, steps)
+        self.tried, self.enabled, self.said, self.wrong = set(), set(), said, set()
+
+    def value(self, expression):
+        found = super().value(expression)
+        if self.said.constants.get(id(expression), found) is not found:
+            self.wrong.add('a condition is otherwise than it always is')
+        return found
+
+    def block(self, life, statements):
+        if id(statements) in self.said.blocks:
+            self.wrong.add('a during action runs that never does')
+        return super().block(life, statements)
+
+    def enter(self, state, goal):
+        before = self.marked[state]
+        for trap in self.said.traps:
+            if trap.parent is state.parent and trap is not state and self.marked[trap] and before == self.marked[state]:
+                super().enter(state, goal)
+                if self.marked[state] > before:
+                    self.wrong.add('a state is left that nothing leaves')
+                return None
+        return super().enter(state, goal)
 
     def is_enabled(self, transition):
         self.tried.add(transition.at)
@@ -42,20 +67,31 @@ class Noting(rules.Rules):
         return found
 
 
+class Said:
+    """What flowlint says of a chart that a run may contradict."""
+
+    def __init__(self, chart, dead, reached):
+        self.constants = {id(expression): value for _, expression, value, _ in Conditions(chart).constants()}
+        self.blocks = {id(state.blocks['during']) for state in never_run(chart)}
+        self.traps = list(without_way_out(chart, reached, dead))
+
+
 def wrong_runs(text, chart, seed, depth, steps, runs, counts):
     """What is wrong with the warnings and the traces of a chart."""
     for each in warnings(text, chart):
         counts['warning ' + each.kind] += 1
     dead, circling = never_taken(chart), {each.transitions[0].at for each in endless(chart)}
     reached = Reached(chart, dead)
+    said = Said(chart, dead, reached)
     hidden = {each.transitions[0].at for each in chart.junctions if each not in reached.junctions and each.transitions}
     choices = random.Random('%s runs' % seed)
     for _ in range(runs):
-        noted = Noting(chart, depth, steps)
+        noted = Noting(chart, depth, steps, said)
         ended = rules.run_events(noted, event_file(choices, chart).encode('latin-1'))
         result = ended.out.split('\n')[-2].split(' ')[5]
         counts['runs'] += 1
         counts['run ends with %s' % result] += 1
+        yield from noted.wrong
         if noted.enabled & set(dead):
             yield 'a transition is enabled that is never taken'
         if any(each not in reached.states for each in noted.marked):

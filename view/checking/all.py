@@ -4,7 +4,7 @@ import sys
 from checking import Wrong, blocks_of, differences, text_of, written_again
 from checking import lint_rows, trace_rows, why_rows
 from checking.commands import wrong_calls
-from checking.pages import wrong_cases, wrong_recipes
+from checking.pages import wrong_cases, wrong_recipes, wrong_warnings
 
 ROWS_OF_WHY = 100           # flowwhy is checked over at least so many texts
 
@@ -37,6 +37,8 @@ def parts(program):
     yield 'cases of docs/SEMANTICS.md', '%d cases' % seen, lines
     lines, seen = wrong_recipes(program)
     yield 'recipes of docs/CHART_TEXT.md', '%d charts' % seen, lines
+    lines, seen = wrong_warnings()
+    yield 'examples of docs/WARNINGS.md', '%d kinds' % seen, lines
     lines, seen = wrong_calls(program)
     yield 'calls of the tools', '%d calls' % seen, lines
 

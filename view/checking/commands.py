@@ -5,7 +5,9 @@ import sys
 import tempfile
 
 from common import CHECKOUT, VIEW
+from common.version import VERSION
 
+TOOLS = ('flowview', 'flowwhy', 'flowlint', 'flowtrace', 'draw_examples')
 LAMP = os.path.join(CHECKOUT, 'examples', 'lamp', 'lamp.')
 FILES = {
     'wrong.chart': 'chart C { default -> A; state A { entry { x++; } } }\n',
@@ -44,6 +46,9 @@ CALLS = [
     ('flowtrace show LAMPchart wanted', 1, '', 'wanted:1:1: error: BadLine: '),
     ('flowtrace show LAMPchart nothing', 4, '', 'nothing:1:1: error: ReadFault: '),
     ('flowtrace show LAMPchart', 2, '', 'usage: flowtrace'),
+    *((tool + ' --help', 0, 'usage: ' + tool, '') for tool in TOOLS),
+    *((tool + ' --version', 0, '%s %s\n' % (tool, VERSION), '') for tool in TOOLS),
+    ('draw_examples --all', 2, '', 'usage: draw_examples'),
 ]
 
 

@@ -1,12 +1,16 @@
-"""The charts and traces of the pages, against the examples that they name."""
+"""The charts and traces of the pages, against the examples that they name, and the examples of the warnings."""
 import os
 import re
 
+from chart_check import check_chart
 from chart_rules import run_rules
 from common import CHECKOUT
+from common.places import line_and_column
 from common.program import read_file, run
+from lint.warnings import IDLE, KINDS, warnings
 
-SEMANTICS, CHART_TEXT = (os.path.join(CHECKOUT, 'docs', name) for name in ('SEMANTICS.md', 'CHART_TEXT.md'))
+SEMANTICS, CHART_TEXT, WARNINGS = (os.path.join(CHECKOUT, 'docs', name) for name in (
+    'SEMANTICS.md', 'CHART_TEXT.md', 'WARNINGS.md'))
 NAMED = re.compile(r'\(`(\w+)`\)')
 
 
@@ -40,3 +44,32 @@ def wrong_recipes(program):
         if not trace or by_rules.out != trace or by_program.out.decode('latin-1') != trace:
             lines.append('examples/recipes: %s has another trace' % name)
     return lines or ([] if names else ['examples/recipes: no chart']), len(names)
+
+
+def wrong_warnings():
+    """The kinds of docs/WARNINGS.md whose example hasn't the warnings that it shows, or has some of the kind left where a comment
+    allows it in their lines, and how many were looked at. Each kind has a section."""
+    sections = {part.partition('\n')[0]: part for part in re.split(r'(?m)^### ', read_file(WARNINGS))[1:]}
+    lines = ['docs/WARNINGS.md: no section %s' % kind for kind in (*KINDS, IDLE) if kind not in sections]
+    for kind, part in sections.items():
+        block = re.search(r'```\n(chart .*?)\n\n(.*?)\n```', part, re.S)
+        if not block:
+            lines.append('docs/WARNINGS.md: %s has no example' % kind)
+            continue
+        text = block[1] + '\n'
+        told = warnings(text, check_chart(text))
+        heads = ['%d:%d: warning: %s: %s' % (*line_and_column(text, each.offset), each.kind, each.text) for each in told]
+        if heads != block[2].split('\n') or not any(each.kind == kind for each in told):
+            lines.append('docs/WARNINGS.md: the example of %s has %s' % (kind, heads))
+        elif kind != IDLE and any(each.kind in (kind, IDLE) for each in left_where_allowed(text, kind, told)):
+            lines.append('docs/WARNINGS.md: a comment doesn\'t silence %s' % kind)
+    return lines, len(sections)
+
+
+def left_where_allowed(text, kind, told):
+    """The warnings on a text in which a comment allows a kind in each line that has one of it."""
+    lines = text.split('\n')
+    for number in {line_and_column(text, each.offset)[0] for each in told if each.kind == kind}:
+        lines[number - 1] += '  // flowlint: allow ' + kind
+    allowed = '\n'.join(lines)
+    return warnings(allowed, check_chart(allowed))

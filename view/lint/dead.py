@@ -2,11 +2,14 @@
 
 A transition that names no event and has no guard, or one that is always true, is taken whenever the search comes to it. Where it
 leads to a state, to an empty junction, or to a junction from which no search comes back, the search ends there. One that names an
-event does the same under that event, and so ends the search before a later one of the same event."""
+event does the same under that event, and so ends the search before a later one of the same event. Nor is a transition taken whose
+guard is true only where that of an earlier one is, or that stands inside a state which an outer transition always leaves before."""
 from collections import defaultdict
 
 import common                                # noqa: F401, which finds the folder checks
-from chart_check import Between, Junction, Sign, Truth
+from chart_check import Between, Junction, Send, Sign, Truth
+from lint.conditions import Conditions
+from lint.ranges import implies
 
 ANY = None                  # whatever the current event is
 
@@ -45,11 +48,19 @@ def leading_to(found, before):
 
 
 class Ends:
-    """Which junctions no search comes back from, under each event that stands in the chart."""
+    """Which junctions no search comes back from, under each event that stands in the chart, which lead to a condition action, and
+    which to an empty junction."""
 
     def __init__(self, chart):
-        self.chart = chart
-        self.known = {}
+        self.chart, self.known = chart, {}
+        before = defaultdict(list)
+        for junction in chart.junctions:
+            for transition in junction.transitions:
+                if isinstance(transition.destination, Junction):
+                    before[transition.destination].append(junction)
+        self.with_actions = leading_to([junction for junction in chart.junctions
+                                        if any(each.condition for each in junction.transitions)], before)
+        self.to_empty = leading_to([each for each in chart.junctions if not each.transitions], before)
 
     def junctions(self, event):
         """The junctions from which no search comes back under that event."""
@@ -58,29 +69,44 @@ class Ends:
         return self.known[event]
 
     def found(self, event):
-        """These junctions: the empty ones, and those with a transition that is surely enabled and leads to a state or to one of
-        these."""
-        found = [each for each in self.chart.junctions if not each.transitions]
-        before = defaultdict(list)
+        """These junctions: all but those of which a search may come to the end of the list, since each transition that is surely
+        enabled leads to one of which it may too. A search that goes round for ever ends with a fault."""
+        left, before, waiting = {}, defaultdict(list), []
         for junction in self.chart.junctions:
-            for transition in junction.transitions:
-                if surely_enabled(transition, event):
-                    if isinstance(transition.destination, Junction):
-                        before[transition.destination].append(junction)
-                    else:
-                        found.append(junction)
-        return leading_to(found, before)
+            sure = [each.destination for each in junction.transitions if surely_enabled(each, event)]
+            left[junction] = len(sure)
+            for goal in sure:
+                before[goal].append(junction)
+            if junction.transitions and not sure:
+                waiting.append(junction)
+        back = set(waiting)
+        while waiting:
+            for junction in before[waiting.pop()]:
+                left[junction] -= 1
+                if left[junction] == 0:
+                    back.add(junction)
+                    waiting.append(junction)
+        return set(self.chart.junctions) - back
+
+    def ends_where_enabled(self, transition, event):
+        """Whether the search ends where this transition is enabled under that event."""
+        return not isinstance(transition.destination, Junction) or transition.destination in self.junctions(event)
+
+    def may_change(self, transition):
+        """Whether the search may come back from this transition after a condition action."""
+        event = transition.event or ANY
+        return not self.ends_where_enabled(transition, event) and bool(
+            transition.condition or transition.destination in self.with_actions)
 
     def ends(self, transition, event):
         """Whether the search surely ends where it comes to this transition under that event."""
-        if not surely_enabled(transition, event):
-            return False
-        return not isinstance(transition.destination, Junction) or transition.destination in self.junctions(event)
+        return surely_enabled(transition, event) and self.ends_where_enabled(transition, event)
 
 
 def never_taken(chart):
-    """The transitions that are never taken, each by its place, with itself and the one that ends the search before it."""
-    ends, found = Ends(chart), {}
+    """The transitions that are never taken, each by its place, with itself and the one that ends the search before it, or with None
+    where its own guard is never true."""
+    ends, conditions, found = Ends(chart), Conditions(chart), {}
     lists = [transitions for _, _, transitions in chart.lists()] + [junction.transitions for junction in chart.junctions]
     for transitions in lists:
         last, by_event = None, {}
@@ -92,4 +118,82 @@ def never_taken(chart):
                 last = each
             elif each.event and each.event not in by_event and ends.ends(each, each.event):
                 by_event[each.event] = each
+        for each, before in covered(ends, conditions, transitions):
+            found.setdefault(each.at, (each, before))
+    for each in chart.transitions():
+        if conditions.never(each):
+            found.setdefault(each.at, (each, None))
+    for each, before in hidden(chart, ends):
+        found.setdefault(each.at, (each, before))
+    return found
+
+
+# ---- guards that hold only where an earlier one holds
+
+MOST_BEFORE = 64            # so many earlier transitions with the same event are looked at
+
+
+def covered(ends, conditions, transitions):
+    """The transitions of a list whose guard is true only where that of an earlier one is, which ends the search then; with that
+    one. What comes back from a junction after a condition action may have changed what the earlier one asked."""
+    earlier = defaultdict(list)
+    for each in transitions:
+        cases = conditions.cases(each)
+        if cases:
+            event = each.event or ANY
+            known = earlier[ANY] + (earlier[event] if event is not ANY else [])
+            before = next((one for one in known if ends.ends_where_enabled(one, event)
+                           and implies(cases, conditions.cases(one))), None)
+            if before:
+                yield each, before
+        if ends.may_change(each):
+            earlier.clear()
+        elif cases and len(earlier[each.event or ANY]) < MOST_BEFORE:
+            earlier[each.event or ANY].append(each)
+
+
+# ---- outer transitions that leave a state before anything inside it has its turn
+
+def leaving(ends, state):
+    """The transitions of the outer list of a state of which one always leaves it, by their events: an event or ANY."""
+    found, clear = {}, True
+    for each in state.lists['outer']:
+        clear = clear and each.destination not in ends.to_empty
+        event = each.event or ANY
+        if clear and event not in found and ends.ends(each, event):
+            found[event] = each
+    return found
+
+
+def sent_inside(chart):
+    """The events that are sent to states below another one, as pairs of an event and that one."""
+    sends = [each for block in chart.blocks() for each in block if isinstance(each, Send)]
+    return {(each.event, above) for each in sends for above in each.to.ancestors()}
+
+
+def hidden(chart, ends):
+    """The transitions inside a state that never have their turn, since an outer one of it leaves it before; with that one."""
+    sent = sent_inside(chart)
+    for state in chart.states[1:]:
+        found = leaving(ends, state)
+        for inside in state.with_all_below() if found else ():
+            for each in inside.lists['inner'] + (inside.lists['outer'] if inside is not state else []):
+                for event in (ANY, each.event):
+                    if event in found and (inside is state or not is_sent(sent, event, state)):
+                        yield each, found[event]
+
+
+def is_sent(sent, event, state):
+    """Whether an event, or any one, is sent to a state below another one."""
+    return any(above is state and event in (ANY, each) for each, above in sent)
+
+
+def never_run(chart):
+    """The states whose during actions never run, each with the outer transition that leaves it, or what it is in, before."""
+    ends, sent, found = Ends(chart), sent_inside(chart), {}
+    for state in chart.states[1:]:
+        before = leaving(ends, state).get(ANY)
+        for inside in state.with_all_below() if before else ():
+            if inside.blocks['during'] and (inside is state or not is_sent(sent, ANY, state)):
+                found.setdefault(inside, before)
     return found

@@ -8,6 +8,7 @@ from chart_check import FLAG, Assign, Between, Literal, Read, Sign, ends_of, typ
 from chart_syntax import COMPARISON, LEVELS
 from lint.uses import parts_of
 
+WITH_BITS = re.compile(r'[^;]*[0-9]q[0-9]')
 LONGEST = 200               # bytes that are looked at before a comparison for its literal
 
 
@@ -25,16 +26,32 @@ def value_of(expression):
     return None
 
 
-def that_saturate(chart):
-    """Each assignment of a constant out of the range of a datum which saturates, with the constant and what it becomes."""
+def that_saturate(chart, ranges):
+    """Each assignment of what is never in the range of a datum which saturates, with the number, or None where that isn't a
+    constant, and the end of the range that the datum becomes."""
     for block in chart.blocks():
         for statement in block:
             if isinstance(statement, Assign) and statement.datum.scale and statement.datum.mode == 'saturate':
-                value, scale = value_of(statement.value), statement.datum.scale
+                ends, scale = ranges.interval(statement.value), statement.datum.scale
                 least, greatest = ends_of(scale)
-                if value is not None and not least <= floor(value * 2 ** scale.fraction) <= greatest:
-                    end = least if value < 0 else greatest
-                    yield statement, value, Fraction(end, 2 ** scale.fraction)
+                if ends and floor(ends[0] * 2 ** scale.fraction) > greatest:
+                    yield statement, value_of(statement.value), Fraction(greatest, 2 ** scale.fraction)
+                elif ends and floor(ends[1] * 2 ** scale.fraction) < least:
+                    yield statement, value_of(statement.value), Fraction(least, 2 ** scale.fraction)
+
+
+def rounded(text, chart):
+    """Each assignment of a constant that lies between two values of a datum, with the constant and the value that the datum gets.
+    Where a number is written with q, it is rounded as it was asked."""
+    for block in chart.blocks():
+        for statement in block:
+            if isinstance(statement, Assign) and statement.datum.scale:
+                value, scale = value_of(statement.value), statement.datum.scale
+                mantissa = None if value is None else value * 2 ** scale.fraction
+                if mantissa is not None and mantissa != floor(mantissa) and not WITH_BITS.match(text, statement.at):
+                    least, greatest = ends_of(scale)
+                    if least <= floor(mantissa) <= greatest:
+                        yield statement, value, Fraction(floor(mantissa), 2 ** scale.fraction)
 
 
 def comparisons(chart):

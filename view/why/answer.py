@@ -13,7 +13,7 @@ from why.event_faults import event_message
 from why.name_faults import Told, name_messages
 from why.run_faults import run_message
 from why.structure_faults import structure_messages
-from why.syntax_faults import syntax_message
+from why.syntax_faults import syntax_messages
 from why.type_faults import type_messages
 
 
@@ -26,12 +26,12 @@ def is_code(text):
 
 
 def chart_messages(text):
-    """All that is told of a chart text: the first fault of the reader; or all faults of names, and those of types that don't hang
-    on them; or all faults of the first later pass that has any."""
+    """All that is told of a chart text: the first fault of the reader, and where that is of a number, those of all numbers after
+    it; or all faults of names, and those of types that don't hang on them; or all faults of the first later pass that has any."""
     try:
         tree = read_chart(text)
     except Fault as fault:
-        return [syntax_message(text, fault)]
+        return syntax_messages(text, fault)[:MOST]
     names = Told(tree)
     messages = name_messages(text, names)[:MOST]
     messages += type_messages(text, names.chart, sorted(set(type_faults(names.chart)))[:MOST])

@@ -2,7 +2,7 @@
 import re
 
 import common                                # noqa: F401, which finds the folder checks
-from chart_check import Datum, Event, Names
+from chart_check import Datum, Event, Junction, Names
 from chart_syntax import KINDS
 from common.guesses import listed, meant
 from common.places import Message, place_text
@@ -97,6 +97,8 @@ def said(text, names, at, number):
         return no_junction(names.chart, *wanted[1:])
     if number == 11:
         return wrong_kind(names, wanted[0], wanted[1].text)
+    if wanted[0] == 'event' and any(each.name == wanted[1].text for each in names.chart.states[1:]):
+        return state_as_event(names.chart, wanted[1].text, at)
     return no_declaration(text, names.chart, wanted[0], wanted[1])
 
 
@@ -139,6 +141,21 @@ def declaration_of(what, name, text):
     before = re.search(r'(send|emit)\s*\Z', text[:name.at])
     kind = {'send': 'local', 'emit': 'output'}[before[1]] if before else 'input'
     return '`event %s %s;` in the chart, if it is missing' % (kind, name.text)
+
+
+def state_as_event(chart, name, at):
+    """What is said where a state stands for an event, as in `outer A -> B` for a transition that leaves A."""
+    found = next(((state, kind, each) for state, kind, transitions in chart.lists() for each in transitions
+                  if each.event_at == at), None)
+    said = 'no event is named %s, but a state is' % name
+    if found is None:
+        return said, ('write: an event in its place, as `send E to %s;`' % name,)
+    state, kind, transition = found
+    goal = transition.destination
+    arrow = '-> S' if goal is None else '-> @%s' % goal.name if isinstance(goal, Junction) else '-> %s' % goal.name
+    place = '' if state.name == name else ' in %s' % name
+    return said, ('write: `%s %s;`%s: a transition stands in the state that it leaves, and doesn\'t name it' % (
+        kind, arrow, place),)
 
 
 def stands_as_flag(text, name):
@@ -197,7 +214,9 @@ def no_state(text, chart, at, state, path):
         return 'no state is named %s here' % name, ('write: %s' % ' or '.join(elsewhere), note)
     if name == 'H':
         return 'no state is named H', ('write: -> S and `history;` in S: who leads to S then comes to its last child', note)
-    return 'no state is named %s here%s' % (name, meant(name, known)), (note,)
+    said_of = meant(name, known)
+    write = () if said_of else ('write: `state %s { }` in the chart, if it is missing' % name,)
+    return 'no state is named %s here%s' % (name, said_of), (*write, note)
 
 
 def found_children(state, path):
@@ -211,7 +230,7 @@ def found_children(state, path):
 def no_junction(chart, state, name):
     """What is said where a junction isn't found."""
     known = [each.name for each in visible(state, 'junction')]
-    note = 'from here the junctions %s are found' % listed(known)
+    note = 'from here the junctions %s are found' % listed(known) if known else 'from here no junction is found'
     if any(each.name == name.text for each in visible(state, 'state')):
         return 'no junction is named %s, but a state is' % name.text, ('write: -> %s, without @' % name.text, note)
     if any(each.name == name.text for each in chart.junctions):

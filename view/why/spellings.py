@@ -23,10 +23,18 @@ LOOP = ('there is no loop in an action: write a junction that leads back to itse
         '`junction each {{ [i < n] {{ i = i + 1; }} -> @each; -> S; }}`')
 COMMENT = 'write // before a comment, which goes to the end of the line'
 DECLARED = 'write this declaration directly in the chart, in front of its states'
+HISTORY = 'write `history;` in the state, and lead to the state: `-> S;` enters the child of S that was active last'
+ONE_GUARD = ': a transition has one guard'
+SENT = 'a local event is broadcast by `send {0};`, and an output event emitted by `emit {0};`'
 BITS = 'there are no operators on bits; for a shift multiply or divide by a power of 2'
 BEFORE_NAMES = ('state', 'junction', 'event', 'input', 'output', 'local', 'chart', '@', '->', 'send', 'emit', 'to', '/', '=', '(')
+WORD_OF_ACTION = r'(?:entry|during|exit|en|du|ex)'
 ACTIONS = {'en': 'entry', 'entry': 'entry', 'du': 'during', 'during': 'during', 'ex': 'exit', 'exit': 'exit'}
 
+BEFORE_OTHERS = [
+    (r'->\s*@?\s*$', r'history\b', 'write `-> S;`, and `history;` in S: the child of S that was active last is entered'),
+    (r'\bjunction\s+\w+\s*$', r'history\b', HISTORY),
+]
 PATHS = [
     (r'(?:->|\bto\b|\bin\s*\()\s*' + PATH + r'\s*$', r'\.' + NAME, 'write `{0}/{1}`: a path has / between its names'),
 ]
@@ -52,8 +60,7 @@ IN_ACTION = [
     (r'\b(?:return|break|continue)\s*$', r'', 'an action is a list of assignments, sends and emits, which runs to its end'),
     (r'\b(?:u?int\d+(?:_[tT])?|double|single|float|bool|boolean)\s*$', NAME,
      'data are declared in the chart alone: write `local {0} : TYPE;` there'),
-    (r'(?:[{;}]|/)\s*' + NAME + r'\s*$', r';', 'a local event is broadcast by `send {0};`, and an output event emitted by '
-     '`emit {0};`'),
+    (r'(?:[{;}]|/)\s*' + NAME + r'\s*$', r'[;}]', SENT),
     (r'=\s*[^;{}]*$', r',\s*' + NAME + r'\s*=', '; stands after each statement: write `; {0} = ..`'),
     (r'=\s*[^;{}]*[\w)]\s*$', r'\}', '; stands after each statement, also after the last one: write it before this }}'),
     (r'=\s*[^;{}]*[\w)]\s*\n\s*$', NAME + r'\s*=', '; stands after each statement: one is missing before {0}'),
@@ -101,6 +108,12 @@ IN_TRANSITION = [
     (r'\b(?:outer|inner|default)\s*$', r'tick\b',
      '`tick` can\'t be named: leave the event out, which fits at every event, also at '
      'tick and at what is sent; for time declare an input event, as `event input STEP;`'),
+    (r'\[([^\[\]|]*)\]\s*$', r'(?:&&?\s*)?\[([^\[\]|]*)\]', 'write `[{0} && {1}]`' + ONE_GUARD),
+    (r'\[([^\[\]]*)\]\s*$', r'\|\|?\s*\[([^\[\]]*)\]', 'write `[{0} || {1}]`' + ONE_GUARD),
+    (r'\[[^\[\]]*\]\s*$', r'(?:&&?\s*)?\[', 'write one bracket with all conditions, as `[(a || b) && c]`'),
+    (r'\[([^\[\]]*)\]\s*$', r'(?:&&?|\|\|?)\s*' + NAME, 'write {1} in the same bracket, if it is a flag, or in front of the '
+     'bracket, if it is an event'),
+    (r'\b(?:outer|inner|default)\s+' + NAME + r'\s*$', r'&&?\s*\[', 'write `{0} [..]`: the guard follows the event'),
     (r'\b(?:outer|inner|default)\s+' + NAME + r'\s*$', r'\|\|?|,|or\b|&', TWO_TRANSITIONS),
     (r'\b(?:outer|inner|default)\s+(?:not\s*)?$', r'[!~]',
      'a transition names one event that fits; there is none for all others'),
@@ -126,15 +139,19 @@ IN_TRANSITION = [
     (r'->\s*@?' + PATH + r'\s*$', r'', '; stands after the destination'),
 ]
 IN_STATE = [
+    (r'\b(entry|during|exit)\s*$', r':\s*((?:' + WORD_OF_ACTION + r'\s*:\s*)+)' + UNTIL, None),
     (r'\b(entry|during|exit)\s*$', r':' + UNTIL, 'write `{0} {{ {1}; }}`'),
     (r'\b(?:entry|during|exit)\s*$', r',', 'write one action for each, as `entry {{ a; }} during {{ a; }}`'),
     (r'\b(entry|during|exit)\s*$', NAME, 'an action stands in braces: write `{0} {{ {1} ..; }}`'),
+    (r'', r'((?:' + WORD_OF_ACTION + r'\s*:\s*){2,})' + UNTIL, None),
     (r'', r'(en|du|ex)\s*:' + UNTIL, None),
-    (r'', r'((?:en|du|ex|entry|during|exit)(?:\s*,\s*(?:en|du|ex|entry|during|exit))+)\s*:' + UNTIL, None),
+    (r'', r'(' + WORD_OF_ACTION + r'(?:\s*,\s*' + WORD_OF_ACTION + r')+)\s*:' + UNTIL, None),
     (r'', r'on\s+' + NAME + r'\s*:' + UNTIL, ON),
     (r'', r'on\s+(after|every|before|at)\s*(\([^)]*\))', None),
     (r'', r'(?:bind)\b', 'there is no bind'),
-    (r'', r'(?:function|eml|truthtable|simfcn)\b', 'there are no functions: a region that is sent to takes their place, as '
+    (r'', r'truthtable\b', 'there are no truth tables: write a junction with a transition for each column, in their order, '
+     '`junction decide {{ [a && !b] {{ y = 1; }} -> @decided; {{ y = 0; }} -> @decided; }}` with `junction decided {{ }}`'),
+    (r'', r'(?:function|eml|simfcn)\b', 'there are no functions: a region that is sent to takes their place, as '
      '`state Calc {{ inner CALL {{ y = x * x; }} -> @done; junction done {{ }} }}` and `send CALL to Calc;`'),
     (r'\b(?:input|output|local)\s*$', r'event\s+' + NAME, 'the word event comes first: write `event input {0};`'),
     (r'\bevent\s+(input|local|output)\s+' + NAME + r'\s*$', r',\s*' + NAME,
@@ -193,11 +210,13 @@ def fitting(rows, before, after):
 
 
 def words_of_state(groups):
-    """The advice for `en, du: a` and for temporal logic after `on`."""
-    if groups[-1].startswith('('):
-        return call_advice(*groups)
-    names = [ACTIONS[each.strip()] for each in groups[0].split(',')]
-    return 'write `%s`' % ' '.join('%s { %s; }' % (name, groups[1]) for name in dict.fromkeys(names))
+    """The advice for `en, du: a` and `en: du: a`, and for temporal logic after `on`."""
+    *words, last = groups
+    if last.startswith('('):
+        return call_advice(*words, last, 'on')
+    names = dict.fromkeys(ACTIONS[each] for each in re.findall(r'\w+', ' '.join(words)))
+    said = 'write `%s`' % ' '.join('%s { %s; }' % (name, last) for name in names)
+    return said + (', or only the last of these, if no more is meant' if ':' in ''.join(words) or len(words) > 1 else '')
 
 
 def reserved_advice(reader, after):
@@ -238,17 +257,50 @@ def arrow_advice(text, after):
     return None
 
 
+def kind_of(text, name):
+    """How an event or a datum of that name is declared in a text that may have faults, as `event local` or `input`, or None."""
+    found = re.search(r'\b(event\s+)?(input|local|output)\s+%s\b' % name, text)
+    return found and ('event ' if found[1] else '') + found[2]
+
+
+def event_advice(text, before, after):
+    """What to write instead of a statement that is an event, as `L` or `B.L`, or None where none stands there."""
+    head, rest = re.search(r'[{;}/]\s*' + NAME + r'\s*\Z', before), re.match(r'((?:\.[A-Za-z]\w*)*)\s*[;}]', after)
+    if not head or not rest:
+        return None
+    *path, event = [head[1], *rest[1].split('.')[1:]]
+    kind = kind_of(text, event)
+    if kind == 'event output':
+        return 'write `emit %s;`' % event
+    if path:
+        return 'write `send %s to %s;`' % (event, '/'.join(path))
+    if kind == 'event local':
+        return 'write `send %s;`' % event
+    return 'write `%s = ..;`: a datum alone is no action' % event if kind in ('local', 'output') else None
+
+
+def place_of(reader, before):
+    """Where a call stands: `guard` for a guard or a value, else the word before the transition of which it is the event."""
+    if is_in_expression(reader):
+        return 'guard'
+    found = re.search(r'\b(outer|inner|default)\s+\w+\s*\Z', before)
+    return found[1] if found else 'outer'
+
+
 def advice(reader, text, offset):
     """What to write at a place, or None where nothing usual stands there. The text before it has no fault."""
     before, after = text[:offset], text[offset:offset + 400]
     found = None
     called = re.search(NAME + r'\s*\Z', before[-200:])
     if re.match(r'\(', after) and called and called[1] not in RESERVED:
-        found = call_advice(called[1], after)
+        found = call_advice(called[1], after, place_of(reader, before[-200:]))
+    if found is None and is_within(reader, 'block'):
+        found = event_advice(text, before[-200:], after)
     if found is None and 'a type' in reader.asked:
         found = type_advice(after)
     if found is None and 'input' not in reader.asked and not is_within(reader, 'block') and innermost(reader, 'state'):
         found = DECLARED if re.match(r'(?:event|input|output|local)\b', after) else None
     if found is None and 'outer' in reader.asked | {'outer'} and not is_within(reader, 'transition'):
         found = arrow_advice(text, after)
-    return found or reserved_advice(reader, after) or fitting(rows_for(reader), before[-2000:], after)
+    return (found or fitting(BEFORE_OTHERS, before[-200:], after) or reserved_advice(reader, after)
+            or fitting(rows_for(reader), before[-2000:], after))

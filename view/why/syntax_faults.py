@@ -5,16 +5,38 @@ from math import floor
 
 import common                                # noqa: F401, which finds the folder checks
 from chart_rules import value_text
-from chart_syntax import DEEPEST, KINDS, LONGEST_NAME, LONGEST_TEXT, MOST_DIGITS, RESERVED, WITH_HISTORY
+from chart_syntax import (DEEPEST, KINDS, LONGEST_NAME, LONGEST_TEXT, MOST_DIGITS, RESERVED, WITH_HISTORY, Fault, number_of,
+                          number_token)
 from common.guesses import closest
 from common.places import Message, place_text, token_end
 from why.asked import asked_at, innermost, kinds_in_words
-from why.spellings import advice
+from why.spellings import HISTORY, advice
 
 TYPOGRAPHY = {'2013': '-', '2014': '-', '2212': '-', '2192': '->', '2264': '<=', '2265': '>=', '2260': '!=', '201c': 'no quotes',
               '201d': 'no quotes', '2018': 'no quotes', '2019': 'no quotes', '00a0': 'a blank', '00d7': '*', '00b7': '*'}
 ITEMS = ('entry', 'during', 'exit', 'outer', 'inner', 'default', 'history', 'junction', 'state', 'event', 'input', 'output',
          'local')
+
+
+WORD = re.compile(r'//[^\n]*|\w+(?:\.[0-9]\w*)?')
+
+
+def syntax_messages(text, fault):
+    """The message of the fault of the reader. Where that is of a number, all numbers after it that have one are told too."""
+    messages = [syntax_message(text, fault)]
+    if text[fault.offset:fault.offset + 1].isdigit():
+        messages += [syntax_message(text, each) for each in faulty_numbers(text, fault.offset) if each.offset > fault.offset]
+    return messages
+
+
+def faulty_numbers(text, offset):
+    """The faults of the numbers of a text from a place on."""
+    for word in WORD.finditer(text, offset):
+        if word[0][0].isdigit():
+            try:
+                number_of(number_token(text, word.start()))
+            except Fault as fault:
+                yield fault
 
 
 def syntax_message(text, fault):
@@ -186,6 +208,8 @@ def outdented(text):
 def chart_advice(text, offset, reader):
     """What to write where the text begins otherwise, goes on after its end, or has an item where it may not stand."""
     word = text[offset:token_end(text, offset)]
+    if word == 'junction' and reader.taken and reader.taken[-1].kind == 'history':
+        return HISTORY
     if 'chart' in reader.asked and not reader.taken:
         return 'write `chart NAME {` at the beginning'
     if reader.asked == {'end'}:

@@ -122,7 +122,7 @@ class AllWorlds:
             node = self.waiting.popleft()
             for event in self.events:
                 for inputs in self.choices:
-                    if time.monotonic() > until:
+                    if time.process_time() > until:
                         self.waiting.appendleft(node)
                         return
                     after = self.machine.step(node, event, inputs)

@@ -7,7 +7,7 @@ from measure.parts import LOGIC, OUTCOME, VALUE
 from suites.numbers import Flag, Number, Path, term_of
 from suites.z3_found import z3
 
-LONGEST_QUESTION = 1000     # milliseconds
+LONGEST_QUESTION = 300     # milliseconds
 
 
 class AnyWorld(Rules):

@@ -17,14 +17,14 @@ class Finder:
         self.goals, self.missing = parts.goals, list(parts.goals)
         self.by_key, self.kept, self.near = {}, [], {}
         self.signatures, self.shapes = set(), set()
-        self.last_gain = time.monotonic()
+        self.last_gain = time.process_time()
         self.excluded = set()
         self.start = machine.first
         self.want()
         self.give(self.start)
 
     def is_over(self):
-        return not self.open_goals() or time.monotonic() > self.until
+        return not self.open_goals() or time.process_time() > self.until
 
     def open_goals(self):
         """The goals that are missing and not known to be out of reach."""
@@ -39,7 +39,7 @@ class Finder:
         for key in self.machine.rules.nearer:
             self.near[key] = node
         if new:
-            self.last_gain = time.monotonic()
+            self.last_gain = time.process_time()
             self.update()
         signature = node.before and node.before.active, node.event, node.noted
         is_new = bool(new) or signature not in self.signatures

@@ -6,6 +6,8 @@
                     those that are never taken lead nowhere
     no values       z3 finds no values of the data with which the decision is so, whatever states are active
     all worlds      every world that a run can come to was tried, as all_worlds.py does"""
+import time
+
 from chart_check import Junction
 from lint.dead import never_taken
 from lint.reach import Reached
@@ -29,6 +31,7 @@ class Reasons:
 
     def __init__(self, parts):
         self.parts, self.chart = parts, parts.chart
+        self.asked = set()
         self.found = {**parts.never, **proved(parts.model)}
         dead = never_taken(self.chart)
         shut = {each.at: (each, None) for each in self.chart.transitions() if is_shut(each)}
@@ -57,13 +60,13 @@ class Reasons:
             return '' if each.owner in reached.junctions else 'no way leads to its junction'
         return '' if (each.owner, each.kind) in reached.done else 'no way leads to its list'
 
-    def ask_z3(self, goals):
-        """Asks z3 of the goals of decisions that are missing."""
-        if z3:
-            for goal in goals:
-                if goal.kind in (OUTCOME, VALUE, PAIR) and goal.key not in self.found:
-                    if impossible(self.parts, goal):
-                        self.say(goal.key, 'no values of the data give it, says z3')
+    def ask_z3(self, goals, until):
+        """Asks z3 of the goals of decisions that are missing, each once, until that time."""
+        for goal in goals:
+            if z3 and goal.kind in (OUTCOME, VALUE, PAIR) and goal.key not in self.asked and time.process_time() < until:
+                self.asked.add(goal.key)
+                if impossible(self.parts, goal):
+                    self.say(goal.key, 'no values of the data give it, says z3')
 
     def all_worlds(self, worlds, goals):
         """Takes what all worlds tell of the goals that are missing."""

@@ -64,7 +64,7 @@ class Reduction:
             pair[1].result != 'ok', -pair[0] / (pair[1].length + 1)))
         best, best_gain = None, 0
         for gain, run in [pair for pair in promising if pair[0]][:MOST_TRIED]:
-            if time.monotonic() > self.until and best is not None:
+            if time.process_time() > self.until and best is not None:
                 break
             if best is not None and run.result != 'ok' and best.result == 'ok':
                 break
@@ -91,9 +91,9 @@ class Reduction:
         if wanted <= self.finder.start.noted:
             return []
         size = max(1, len(lines) // 2)
-        while size and time.monotonic() < self.until:
+        while size and time.process_time() < self.until:
             at = 0
-            while at < len(lines) and time.monotonic() < self.until:
+            while at < len(lines) and time.process_time() < self.until:
                 fewer = lines[:at] + lines[at + size:]
                 if wanted <= self.machine.run(fewer).covered():
                     lines = fewer
@@ -106,7 +106,7 @@ class Reduction:
         """Lines without inputs that nothing needs."""
         for place, (event, inputs) in enumerate(lines):
             for datum in list(inputs):
-                if time.monotonic() > self.until:
+                if time.process_time() > self.until:
                     return lines
                 fewer = {each: value for each, value in inputs.items() if each is not datum}
                 changed = lines[:place] + [(event, fewer)] + lines[place + 1:]

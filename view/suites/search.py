@@ -20,7 +20,7 @@ class Search:
     """What was found for a chart: the files as lists of lines, and the reasons of what doesn't come."""
 
     def __init__(self, model, seconds, seed, longest, depth, steps):
-        begun = time.monotonic()
+        begun = time.process_time()
         self.parts = Parts(model, depth, steps)
         self.machine = Machine(Guided(self.parts, depth, steps))
         self.finder = Finder(self.parts, self.machine, longest, begun + seconds * (1 - REDUCTION))
@@ -29,9 +29,9 @@ class Search:
         self.walks, self.solving = Walks(self.finder, seed), Solving(self.finder)
         self.worlds = AllWorlds(self.finder)
         self.find(begun, seconds)
-        self.reasons.ask_z3(self.finder.missing)
-        self.files = Reduction(self.finder, max(begun + seconds, time.monotonic() + seconds * REDUCTION / 2)).files
-        self.seconds = time.monotonic() - begun
+        self.reasons.ask_z3(self.finder.open_goals(), time.process_time() + seconds / 20)
+        self.files = Reduction(self.finder, max(begun + seconds, time.process_time() + seconds * REDUCTION / 2)).files
+        self.seconds = time.process_time() - begun
 
     def exclude(self):
         """Tells the finder what can't come, so that nothing looks for it."""
@@ -39,14 +39,14 @@ class Search:
 
     def find(self, begun, seconds):
         finder = self.finder
-        while not finder.is_over() and time.monotonic() < begun + seconds * FIRST:
+        while not finder.is_over() and time.process_time() < begun + seconds * FIRST:
             self.walks.go(WALKS)
         if not finder.is_over():
             self.worlds.go(begun + seconds * (1 - REDUCTION) / 2)
             self.reasons.all_worlds(self.worlds, finder.missing)
-            self.reasons.ask_z3(finder.open_goals())
+            self.reasons.ask_z3(finder.open_goals(), time.process_time() + seconds / 10)
             self.exclude()
-        finder.last_gain = time.monotonic()
-        while not finder.is_over() and time.monotonic() < finder.last_gain + seconds * STILL:
+        finder.last_gain = time.process_time()
+        while not finder.is_over() and time.process_time() < finder.last_gain + seconds * STILL:
             self.walks.go(WALKS)
-            self.solving.go(time.monotonic() + seconds / 40)
+            self.solving.go(time.process_time() + seconds / 40)

@@ -39,7 +39,7 @@ class Solving:
         self.tails(until)
 
     def is_over(self, until):
-        return self.finder.is_over() or time.monotonic() > until
+        return self.finder.is_over() or time.process_time() > until
 
     def one_line(self, node, event, until):
         """Goes all ways of one line after a node."""

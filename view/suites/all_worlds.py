@@ -7,7 +7,7 @@ make the worlds fewer:
                 that a world is the same whatever values its inputs have. Otherwise an input of a type of few values has them all.
     counters    A datum that is only compared with numbers, set to numbers, and raised by numbers, and that doesn't wrap, behaves
                 alike above all of these numbers: it stays there until it is set. So all values above the greatest count as one. Whether
-                it saturates isn't told then."""
+                it saturates isn't told where it came there."""
 import time
 from collections import deque
 from fractions import Fraction
@@ -16,6 +16,7 @@ from itertools import product
 from chart_check import Assign, Between, Read, ends_of
 from lint.numbers import value_of
 from lint.uses import parts_of
+from measure.parts import CLIP, FAULT
 
 from suites.inputs import COMPARISONS, classes, events_of, expressions_of, inputs_read
 
@@ -87,14 +88,15 @@ def all_values(datum):
 
 
 class AllWorlds:
-    """The worlds of a chart, each tried with all lines. Where `is_whole` holds at the end, there are no others."""
+    """The worlds of a chart, each tried with all lines. Where `is_whole` holds at the end, there are no others. With `exact` counters
+    have each of their values."""
 
-    def __init__(self, finder):
+    def __init__(self, finder, exact=False):
         chart = finder.parts.chart
         self.finder, self.machine = finder, finder.machine
-        self.choices, self.events, self.counters = choices_of(chart), events_of(chart), counters(chart)
+        self.choices, self.events, self.counters = choices_of(chart), events_of(chart), {} if exact else counters(chart)
         self.read = {part.datum for expression in expressions_of(chart) for part in parts_of(expression) if isinstance(part, Read)}
-        self.seen, self.waiting = set(), deque()
+        self.seen, self.waiting, self.above = set(), deque(), set()
         self.is_whole = False
         if self.choices is not None:
             self.add(finder.start)
@@ -104,8 +106,10 @@ class AllWorlds:
         values = []
         for datum, value in zip(self.machine.chart.data, node.values):
             if datum.kind != 'input' and datum in self.read:
-                most = self.counters.get(datum)
-                values.append(value if most is None or value <= most else 'above')
+                is_above = datum in self.counters and value > self.counters[datum]
+                values.append('above' if is_above else value)
+                if is_above:
+                    self.above.add(datum)
         return node.active, node.remembered, tuple(values)
 
     def add(self, node):
@@ -130,9 +134,8 @@ class AllWorlds:
                     self.add(after)
         self.is_whole = not self.waiting
 
-    def tells(self, goal, parts):
-        """Whether the goal never comes if it hasn't come in all worlds: not of the end of a counter."""
-        if goal.kind not in ('clip', 'fault') or goal.key[1] not in ('overflow',) and goal.kind == 'fault':
-            return True
-        number = goal.key[1] if goal.kind == 'clip' else goal.key[2]
-        return parts.assignments[number].part.datum not in self.counters
+    def tells(self, goal):
+        """Whether the goal never comes if it didn't come in any world. Of a counter that was above its numbers the end isn't told."""
+        if goal.kind == CLIP or goal.key[:2] == (FAULT, 'overflow'):
+            return self.finder.parts.assignments[goal.key[-2 if goal.kind == CLIP else -1]].part.datum not in self.above
+        return True

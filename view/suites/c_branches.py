@@ -1,8 +1,7 @@
 """Runs event files through the C that chart_to_c writes of a chart, and tells which branches of it they take, by gcov.
 
-The C is compiled by gcc without optimization, so that a branch is one of the conditions in the C. The trace of each file must be that
-of the chart. A branch that no file takes is told with the part of the chart that its function is of, by the comment above the function.
-"""
+The C is compiled by gcc without optimization, so that its branches are those of the conditions in the C. The trace of each file must
+be that of the chart. A branch that no file takes is told with the part of the chart that its function is of, by the comment above it."""
 import gzip
 import json
 import os
@@ -11,14 +10,15 @@ import subprocess
 import tempfile
 from collections import namedtuple
 
-from chart_c import Failed, compile_driver, make_c, output_of, write
+from chart_c import FOLDER as DRIVER, Failed, compile_driver, make_c, output_of, write
 
 FLAGS = '-std=c99', '-O0', '--coverage'
 
-# A branch that isn't taken: the line of the C, its text, the function, and the part of the chart that the function is of.
-Missed = namedtuple('Missed', 'line text function part')
+# A line of the C with branches that aren't taken: how many of how many, its text, the function, and the part of the chart that the
+# function is of.
+Missed = namedtuple('Missed', 'line missed of text function part')
 
-# How many branches there are, how many are taken, and those that aren't.
+# How many branches there are, how many are taken, and the lines with those that aren't.
 Branches = namedtuple('Branches', 'all taken missed')
 
 
@@ -26,10 +26,9 @@ def branches_of(program, text, files):
     """The branches of the C of a chart text that event files take. Each file has its bytes and the trace that is wanted."""
     with tempfile.TemporaryDirectory() as folder:
         source, table = make_c(program, text, folder)
-        include = os.path.join(os.path.dirname(os.path.abspath(__import__('chart_c').__file__)), 'c_driver')
-        output_of(['gcc', *FLAGS, '-I', include, '-c', source, '-o', 'chart.o'], folder)
-        output_of(['gcc', '-std=c99', '-I', include, '-c', table, '-o', 'table.o'], folder)
-        driver = compile_driver(folder)
+        output_of(['gcc', *FLAGS, '-c', source, '-o', 'chart.o'], folder)
+        output_of(['gcc', '-std=c99', '-I', DRIVER, '-c', table, '-o', 'table.o'], folder)
+        driver = compile_driver(folder, 'gcc')
         output_of(['gcc', '--coverage', 'chart.o', 'table.o', driver, '-o', 'tested'], folder)
         for number, (events, trace) in enumerate(files):
             name = write(folder, '%d.events' % number, events)
@@ -49,16 +48,15 @@ def told(folder, source):
         lines = file.read().split('\n')
     parts = parts_of(lines)
     of_source = next(each for each in found['files'] if os.path.basename(each['file']) == source)
-    taken, missed = 0, []
+    missed = []
     for line in of_source['lines']:
-        for branch in line['branches']:
-            if branch['count']:
-                taken += 1
-            else:
-                function = line.get('function_name', '')
-                missed.append(Missed(line['line_number'], lines[line['line_number'] - 1].strip(), function,
-                                     parts.get(function, 'no part of the chart alone')))
-    return Branches(taken + len(missed), taken, missed)
+        left = sum(1 for branch in line['branches'] if not branch['count'])
+        if left:
+            number, function = line['line_number'], line.get('function_name', '')
+            missed.append(Missed(number, left, len(line['branches']), lines[number - 1].strip(), function,
+                                 parts.get(function, 'no part of the chart alone')))
+    count = sum(len(line['branches']) for line in of_source['lines'])
+    return Branches(count, count - sum(each.missed for each in missed), missed)
 
 
 def parts_of(lines):
@@ -75,7 +73,7 @@ def lines_of(branches):
     """The branches in words."""
     yield '%d of %d branches of the C' % (branches.taken, branches.all)
     for each in branches.missed:
-        yield '  line %d `%s` of %s: %s' % (each.line, each.text, each.function, each.part)
+        yield '  line %d, %d of %d: %s of %s: %s' % (each.line, each.missed, each.of, each.text, each.function, each.part)
 
 
 def json_of(branches):

@@ -1,12 +1,13 @@
 """What a search has found, and what is missing. A search gives each node that it comes to, which is kept where it has something new."""
 import time
-from collections import defaultdict
+from collections import defaultdict, deque
 
 from measure.covered import VECTOR
 from measure.parts import CLIP, FAULT, OUTCOME, PAIR, VALUE
 from measure.suite import evaluations_of, is_met
 
 MOST_KEPT = 4000            # so many nodes are kept to go on from
+MOST_RECENT = 12            # so many runs to a decision that isn't covered are kept
 
 
 class Finder:
@@ -17,6 +18,7 @@ class Finder:
         self.goals, self.missing = parts.goals, list(parts.goals)
         self.by_key, self.kept, self.near = {}, [], {}
         self.signatures, self.shapes = set(), set()
+        self.recent, self.undecided = defaultdict(lambda: deque(maxlen=MOST_RECENT)), set()
         self.last_gain = time.process_time()
         self.excluded = set()
         self.start = machine.first
@@ -38,6 +40,8 @@ class Finder:
                 self.by_key[key] = node
         for key in self.machine.rules.nearer:
             self.near[key] = node
+        for number in {key[1] for key in node.noted if key[0] == VECTOR} & self.undecided:
+            self.recent[number].append(node)
         if new:
             self.last_gain = time.process_time()
             self.update()
@@ -59,6 +63,7 @@ class Finder:
 
     def want(self):
         """Tells the rules what is missing, so that they measure how near they come."""
+        self.undecided = self.open_decisions()
         rules = self.machine.rules
         wanted = set()
         for goal in self.missing:
@@ -74,9 +79,9 @@ class Finder:
         return {goal.key[1] for goal in self.open_goals() if goal.kind in (OUTCOME, VALUE, PAIR)}
 
     def evaluated(self):
-        """The nodes whose lines first evaluated a decision in some way, by the number of the decision."""
-        found = defaultdict(list)
+        """For each decision that isn't covered nodes whose lines evaluated it: the first ones in each way, and recent ones."""
+        found = {number: list(self.recent[number]) for number in self.undecided}
         for key, node in self.by_key.items():
-            if key[0] == VECTOR:
+            if key[0] == VECTOR and key[1] in found:
                 found[key[1]].append(node)
         return found

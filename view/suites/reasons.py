@@ -72,5 +72,5 @@ class Reasons:
         """Takes what all worlds tell of the goals that are missing."""
         if worlds.is_whole:
             for goal in goals:
-                if worlds.tells(goal, self.parts):
-                    self.say(goal.key, 'all %s worlds that a run can come to were tried' % '{:,}'.format(len(worlds.seen)))
+                if worlds.tells(goal):
+                    self.say(goal.key, 'in none of the worlds that a run can come to, which are {:,}'.format(len(worlds.seen)))

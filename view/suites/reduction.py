@@ -10,6 +10,7 @@ from measure.suite import evaluations_of, met_goals
 
 MOST_TRIED = 12             # so many runs are tried to go on with
 LONGEST_FILE = 200          # a file isn't made longer by another run, which may be longer itself
+FINEST = 60                 # of a long file no smaller part is left out than one of so many
 
 
 def needed(goals, by_key):
@@ -91,7 +92,7 @@ class Reduction:
         if wanted <= self.finder.start.noted:
             return []
         size = max(1, len(lines) // 2)
-        while size and time.process_time() < self.until:
+        while size > len(lines) // (2 * FINEST) and time.process_time() < self.until:
             at = 0
             while at < len(lines) and time.process_time() < self.until:
                 fewer = lines[:at] + lines[at + size:]
@@ -100,7 +101,7 @@ class Reduction:
                 else:
                     at += size
             size //= 2
-        return self.simpler(lines, wanted)
+        return self.simpler(lines, wanted) if len(lines) <= 2 * FINEST else lines
 
     def simpler(self, lines, wanted):
         """Lines without inputs that nothing needs."""

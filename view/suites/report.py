@@ -71,10 +71,10 @@ def place_name(files, place):
     return files[place.file][0] + (' line %d' % place.line if place.line else ' at the start')
 
 
-def report_json(text, files, rows, notes):
-    """The report as what JSON has."""
+def report_json(text, files, rows, how):
+    """The report as what JSON has, with how it was made."""
     return {
-        'notes': list(notes),
+        **how,
         'files': [{'events': name, 'lines': len(lines)} for name, lines in files],
         'counts': {kind: dict(zip(('covered', 'impossible', 'all'), found)) for kind, found in counts_of(rows).items()},
         'goals': [goal_json(text, files, row) for row in rows],

@@ -42,11 +42,18 @@ class Search:
         while not finder.is_over() and time.process_time() < begun + seconds * FIRST:
             self.walks.go(WALKS)
         if not finder.is_over():
-            self.worlds.go(begun + seconds * (1 - REDUCTION) / 2)
-            self.reasons.all_worlds(self.worlds, finder.missing)
             self.reasons.ask_z3(finder.open_goals(), time.process_time() + seconds / 10)
             self.exclude()
+            self.all_worlds(self.worlds, begun + seconds * (1 - REDUCTION) / 2)
+            if self.worlds.is_whole and not finder.is_over():
+                self.all_worlds(AllWorlds(finder, exact=True), time.process_time() + seconds / 10)
         finder.last_gain = time.process_time()
         while not finder.is_over() and time.process_time() < finder.last_gain + seconds * STILL:
             self.walks.go(WALKS)
             self.solving.go(time.process_time() + seconds / 40)
+
+    def all_worlds(self, worlds, until):
+        """Tries all worlds, and takes what they tell."""
+        worlds.go(until)
+        self.reasons.all_worlds(worlds, self.finder.missing)
+        self.exclude()

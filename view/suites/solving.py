@@ -10,7 +10,7 @@ from suites.z3_found import z3
 
 LONGEST_CHECK = 300         # milliseconds for one question
 MOST_TRIES = 3              # so often a way is asked for from one set of active states
-LONGEST_TAIL = 24           # so many lines at most have unknown inputs
+TAILS = 2, 4, 8, 24         # so many lines at the end of a run have unknown inputs
 
 
 class Solving:
@@ -33,8 +33,8 @@ class Solving:
             for event in self.events:
                 if self.is_over(until):
                     return
-                if (id(node), event) not in self.asked:
-                    self.asked.add((id(node), event))
+                if (node, event) not in self.asked:
+                    self.asked.add((node, event))
                     self.one_line(node, event, until)
         self.tails(until)
 
@@ -56,22 +56,18 @@ class Solving:
 
     def tails(self, until):
         """Asks for other inputs of several lines, where they may decide what is missing."""
-        open_decisions = self.finder.open_decisions()
         for number, nodes in self.finder.evaluated().items():
-            if number not in open_decisions:
-                continue
             for node in nodes:
                 run = node.nodes()
-                for count in (2, 4, 8, LONGEST_TAIL):
+                for count in TAILS:
                     begin = max(0, len(run) - 1 - count)
                     if self.is_over(until):
                         return
-                    if (id(node), count) in self.asked:
-                        continue
-                    self.asked.add((id(node), count))
-                    lines = [(each.event, each.inputs) for each in run[begin + 1:]]
-                    for found in self.others(run[begin], lines, (number, id(node), count), len(lines) - 1, until, number):
-                        self.give_all(run[begin], found)
+                    if len(run) > 1 and (node, number, begin) not in self.asked:
+                        self.asked.add((node, number, begin))
+                        lines = [(each.event, each.inputs) for each in run[begin + 1:]]
+                        for found in self.others(run[begin], lines, (node, number, begin), len(lines) - 1, until, number):
+                            self.give_all(run[begin], found)
 
     def give_all(self, node, lines):
         for event, inputs in lines:

@@ -384,7 +384,11 @@ class Rules:
         else:
             self.met('block: overflow')
             raise RunFault('overflow ' + datum.name)
-        return Fraction(mantissa, 2 ** scale.fraction)
+        return self.number(mantissa, scale.fraction)
+
+    def number(self, mantissa, fraction):
+        """The number of a mantissa and so many bits after the point. A tool that runs a chart over unknown inputs has others."""
+        return Fraction(mantissa, 2 ** fraction)
 
     # -- expressions: the value is a bool or an exact number
 
@@ -426,7 +430,7 @@ class Rules:
         if right == 0:
             self.met('fault zero')
             raise RunFault('zero')
-        quotient = Fraction(floor(left / right * 2 ** fraction), 2 ** fraction)
+        quotient = self.number(floor(left / right * 2 ** fraction), fraction)
         if quotient != left / right:
             self.met('expression: a %squotient that isn\'t exact' % ('negative ' if left / right < 0 else ''))
         return quotient

@@ -2,8 +2,9 @@
 import sys
 
 from checking import Wrong, blocks_of, differences, text_of, written_again
-from checking import lint_rows, trace_rows, why_rows
+from checking import lint_rows, suite_rows, trace_rows, why_rows
 from checking.commands import wrong_calls
+from checking.formats import wrong_formats
 from checking.pages import wrong_cases, wrong_recipes, wrong_warnings
 
 ROWS_OF_WHY = 100           # flowwhy is checked over at least so many texts
@@ -12,7 +13,7 @@ ROWS_OF_WHY = 100           # flowwhy is checked over at least so many texts
 def answers(program):
     """What answers each table."""
     return {why_rows.TABLE: lambda block: why_rows.why_answer(program, block), lint_rows.TABLE: lint_rows.lint_answer,
-            trace_rows.TABLE: trace_rows.trace_answer}
+            trace_rows.TABLE: trace_rows.trace_answer, suite_rows.TABLE: suite_rows.suite_answer}
 
 
 def parts(program):
@@ -41,6 +42,8 @@ def parts(program):
     yield 'examples of docs/WARNINGS.md', '%d kinds' % seen, lines
     lines, seen = wrong_calls(program)
     yield 'calls of the tools', '%d calls' % seen, lines
+    lines, seen = wrong_formats(program)
+    yield 'reports in other formats', '%d reports' % seen, lines
 
 
 def checked(program):

@@ -25,12 +25,17 @@ CALLS = [
     ('flowwhy fault.chart ticks --steps 5', 3, '0 start [A] n=0 - ok\n1 tick', 'run 1: zero\nfault.chart:1:66: error: zero: '),
     ('flowwhy nothing.chart', 4, '', 'read fault\nnothing.chart:1:1: error: ReadFault: '),
     ('flowwhy', 2, '', 'usage: flowwhy'),
-    ('flowwhy a b c', 2, '', 'usage: flowwhy'),
+    ('flowwhy wrong.chart LAMPchart LAMPevents', 1, '0 start [Off]', 'chart 1:44: 3 Expected\nwrong.chart:1:44: error: Expected: '),
+    ('flowwhy fault.chart ticks ticks --format json', 3, '{\n "tool": "flowwhy",\n "messages": [\n  {\n   "file": "fault.chart",\n', 'run 1'),
+    ('flowwhy LAMPchart --format xml', 2, '', 'usage: flowwhy'),
     ('flowwhy wrong.chart --program nothing', 127, '', 'flowwhy: --program names nothing, which is no program'),
     ('flowlint dead.chart', 0, 'ok 2 states 0 junctions 3 transitions 3 pairs\ndead.chart:1:47: warning: NeverTaken: ', ''),
     ('flowlint dead.chart --strict', 8, 'ok ', ''),
     ('flowlint dead.chart --strict --allow NeverTaken', 0, 'ok ', ''),
     ('flowlint wrong.chart', 1, '', 'chart 1:44: 3 Expected\nwrong.chart: flowc refuses'),
+    ('flowlint dead.chart LAMPchart', 0, 'ok 2 states 0 junctions 3 transitions 3 pairs\ndead.chart:1:47: warning: NeverTaken: ', ''),
+    ('flowlint LAMPchart wrong.chart', 1, 'ok 3 states', 'chart 1:44: 3 Expected\nwrong.chart: flowc refuses'),
+    ('flowlint LAMPchart dead.chart --strict', 8, 'ok 3 states', ''),
     ('flowlint nothing.chart', 4, '', 'read fault\n'),
     ('flowlint dead.chart --program nothing', 127, '', 'flowlint: --program names nothing'),
     ('flowtrace show LAMPchart LAMPtrace', 0, '0 start [Off]\n1 GO [On]\n2 GO [Off]\n3 tick\n', ''),
@@ -42,6 +47,19 @@ CALLS = [
     ('flowtrace run wrong.chart ticks', 1, '', 'chart 1:44: 3 Expected\n'),
     ('flowtrace test LAMPchart LAMPevents wanted', 0, 'the same', ''),
     ('flowtrace test LAMPchart LAMPevents other', 1, 'line 2, GO:', ''),
+    ('flowtrace test LAMPchart LAMPevents wanted LAMPevents other', 1, 'LAMPchart LAMPevents\nthe same, 4 lines\nLAMPchart', ''),
+    ('flowtrace test LAMPchart LAMPevents wanted fault.chart ticks', 2, '', 'usage: flowtrace'),
+    ('flowtrace run LAMPchart LAMPevents --junit out', 2, '', 'usage: flowtrace'),
+    ('flowview LAMPchart LAMPevents --coverage --at-least 100', 0, '2 of 2 states, 3 of 3 transitions\n', ''),
+    ('flowview LAMPchart ticks --coverage --at-least 50', 1, '1 of 2 states, 1 of 3', 'flowview: 1 of 3 transitions are covered'),
+    ('flowview LAMPchart ticks LAMPevents --coverage --at-least 50', 0, '2 of 2 states, 3 of 3 transitions\n', ''),
+    ('flowview LAMPchart ticks LAMPevents --coverage --format json', 0, '{\n "chart": "Lamp",', ''),
+    ('flowview LAMPchart ticks LAMPevents', 2, '', 'usage: flowview'),
+    ('flowview LAMPchart ticks --at-least 50', 2, '', 'usage: flowview'),
+    ('flowtests LAMPchart --seconds 5', 0, 'traces by ', ''),
+    ('flowtests wrong.chart', 1, '', 'chart 1:44: 3 Expected\n'),
+    ('flowtests LAMPchart --seconds 0', 2, '', 'usage: flowtests'),
+    ('flowtests LAMPchart --program nothing', 127, '', 'flowtests: --program names nothing'),
     ('flowtrace expand wrong.chart wanted', 1, '', 'chart 1:44: 3 Expected\n'),
     ('flowtrace show LAMPchart wanted', 1, '', 'wanted:1:1: error: BadLine: '),
     ('flowtrace show LAMPchart nothing', 4, '', 'nothing:1:1: error: ReadFault: '),
@@ -64,6 +82,7 @@ def wrong_calls(program):
             done = subprocess.run([sys.executable, os.path.join(VIEW, tool), *rest], cwd=folder, capture_output=True, check=False,
                                   stdin=subprocess.DEVNULL, env={**os.environ, 'FLOWC': program, 'COLUMNS': '80'})
             got_out, got_error = done.stdout.decode('latin-1'), done.stderr.decode('latin-1')
+            out = out.replace('LAMP', LAMP)
             fits = all(got.startswith(wanted) and bool(got) == bool(wanted)
                        for got, wanted in ((got_out, out), (got_error, error)))
             if done.returncode != status or not fits:

@@ -16,7 +16,7 @@ class Transition:
 
     def __init__(self, number, kind, place, of, owner, written, resolved):
         self.number, self.id, self.kind, self.place, self.of = number, 't%d' % number, kind, place, of
-        self.owner, self.resolved, self.destination = owner, resolved, resolved.destination
+        self.owner, self.written, self.resolved, self.destination = owner, written, resolved, resolved.destination
         self.event = resolved.event
         self.lines = labels.label_lines(written)
         self.text = syntax.transition_text(written)
@@ -32,7 +32,7 @@ class ChartModel:
     """All of a chart that is shown."""
 
     def __init__(self, text):
-        written, self.chart = read_chart(text), check_chart(text)
+        self.text, written, self.chart = text, read_chart(text), check_chart(text)
         self.name = written.root.name.text
         self.sum = hashlib.sha256(syntax.canonical_text(written).encode('latin-1')).hexdigest()
         self.written = dict(zip(self.chart.states, all_states(written.root)))

@@ -1,5 +1,7 @@
 """The answers to the tables in the folder `tables`, none of which needs Graphviz or a browser. The tables are as those of
 `checks/tables.py`, and say themselves what the parts of a block are."""
+from itertools import groupby
+
 from chart_syntax import Reader
 
 from picture import coverage, labels, rows, runs, sheet, traces
@@ -34,16 +36,25 @@ def rows_answer(block):
 
 
 def coverage_answer(block):
-    """The report on a trace or on a run of events, but for the note at its end; or why the trace is refused."""
+    """The report on a trace or on a run of events, but for the note at its end, or on several, of which a part `and` parts one from the
+    next; or why a trace is refused."""
     model = ChartModel(joined(block, 'chart'))
+    parts = [each for each in block.parts if each[0] in ('event', 'trace', 'and')]
     try:
-        if block.values('event'):
-            lines = runs.run_chart(model, joined(block, 'event').encode(), 8, 10000)[0]
-        else:
-            lines = traces.Trace(model).lines(joined(block, 'trace').encode())
+        found = [coverage_of(model, list(group)) for is_run, group in groupby(parts, lambda part: part[0] != 'and') if is_run]
     except traces.NotATrace as error:
         return [str(error)]
-    return coverage.Coverage(model, lines).text().split('\n')[:-2]
+    told = found[0] if len(found) == 1 else coverage.Suite(model, found)
+    return told.text().split('\n')[:-2]
+
+
+def coverage_of(model, parts):
+    """The coverage of one run."""
+    data = ''.join(rest + '\n' for _, rest in parts).encode()
+    if parts[0][0] == 'trace':
+        return coverage.Coverage(model, traces.Trace(model).lines(data))
+    lines, _, rules = runs.run_chart(model, data, 8, 10000)
+    return coverage.Coverage(model, lines, rules)
 
 
 def run_answer(block):

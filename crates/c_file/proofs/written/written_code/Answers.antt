@@ -5,7 +5,7 @@ use Rattle.code_counts.specs.declared.numbers.Counted.TheVariants.{Steps, Depth}
 use Rattle.code_counts.specs.Needed as needed
 use Rattle.c_expression_writer.specs.FileShapes.{tests_seen}
 use Rattle.c_file.specs.Files.{IsWritten}
-use Rattle.c_file.proofs.CodeLemmas.{written_fits, written_runs, written_tags}
+use Rattle.c_file.proofs.CodeLemmas.{written_fits, written_alike, written_tags}
 use Rattle.c_file.proofs.ServeLemmas.{limits_serve}
 use Rattle.c_file.proofs.SizeLemmas.{has_sizes}
 use Rattle.c_file.proofs.written.written_code.Goals as goal
@@ -26,7 +26,8 @@ returns c =
       tags = written_tags is;
       serves =
           limits_serve (chart_of c.args.chart.now) c.args.bounds (code_of c.in_ok-code.code) _ c.in_ok-found.found
-          c.shape.ensures.valid (written_runs is c.in_ok-code.ensures.well_formed) c.in_ok-found.ensures
+          c.shape.ensures.valid (written_fits is c.in_ok-code.ensures.well_formed).names
+          (written_alike is c.in_ok-code.ensures.well_formed) c.in_ok-found.ensures
           c.in_ok-tests.ensures.steps c.in_ok-tests.ensures.depth;
       limits_are = record {
         steps =

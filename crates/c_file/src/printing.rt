@@ -13,6 +13,7 @@ use crate::heights::most_open;
 use crate::known::{Uses, is_outside, uses_of};
 use crate::made::Made;
 use c_header::calls_number;
+use c_names::print_chart_name;
 use c_text::{function_kind, print_function, print_prototype};
 use code_fields::print_number;
 use flow_base::{Bounds, Memory};
@@ -75,6 +76,20 @@ fn print_opening(out: &mut String, chart: &str) -> Result<(), AllocError>
     Ok(())
 }
 
+/// Appends words, and one of the chart's names in C, whose word goes on with other text.
+fn print_of_chart(
+    out: &mut String,
+    front: &str,
+    chart: &str,
+    back: &str,
+) -> Result<(), AllocError>
+    ensures { OnOk result (string_bytes out.new
+        ≡ string_bytes out.old ++ spec.named_text front.now chart.now back.now) }
+{
+    out.push_str(front)?;
+    print_chart_name(out, chart, back)
+}
+
 /// Appends words, and that a number of the header is this one.
 #[tactic(auto, unfolding(crate::specs::Source::number_is))]
 fn print_number_is(
@@ -87,8 +102,8 @@ fn print_number_is(
     ensures { OnOk result (string_bytes out.new
         ≡ string_bytes out.old ++ spec.number_is front.now chart.now name.now number) }
 {
-    print_named(out, front, chart)?;
-    print_number(out, name, number)?;
+    print_of_chart(out, front, chart, name)?;
+    print_number(out, "", number)?;
     Ok(())
 }
 
@@ -105,46 +120,52 @@ fn print_fits(
     ensures { OnOk result (string_bytes out.new
         ≡ string_bytes out.old ++ spec.fits_text chart.now bounds outputs notes calls) }
 {
-    print_named(
+    print_of_chart(
         out,
         "/* C refuses this type where the header has another of these numbers. */\ntypedef char ",
         chart,
+        "header_fits[((",
     )?;
     print_number_is(
         out,
-        "_header_fits[((",
+        "",
         chart,
-        "_DEPTH == ",
+        "DEPTH == ",
         u64::from(bounds.depth),
     )?;
     print_number_is(
         out,
         ")\n    && (",
         chart,
-        "_STEPS == ",
+        "STEPS == ",
         u64::from(bounds.steps),
     )?;
     print_number_is(
         out,
         ")\n    && (",
         chart,
-        "_OUTPUTS == ",
+        "OUTPUTS == ",
         u64::from(outputs),
     )?;
-    print_number_is(out, ")\n    && (", chart, "_NOTES == ", notes)?;
-    print_number_is(out, ")\n    && (", chart, "_CALLS == ", calls)?;
+    print_number_is(out, ")\n    && (", chart, "NOTES == ", notes)?;
+    print_number_is(out, ")\n    && (", chart, "CALLS == ", calls)?;
     out.push_str(")) ? 1 : -1];\n\n")?;
     Ok(())
 }
 
 /// Appends the types of 128 bits, where one is named.
-fn print_wide(out: &mut String, wide: bool) -> Result<(), AllocError>
+fn print_wide(out: &mut String, chart: &str, wide: bool) -> Result<(), AllocError>
     ensures { OnOk result
-        (string_bytes out.new ≡ string_bytes out.old ++ spec.wide_text wide) }
+        (string_bytes out.new ≡ string_bytes out.old ++ spec.wide_text chart.now wide) }
 {
     if wide {
-        out.push_str("__extension__ typedef __int128 flow_int128;\n")?;
-        out.push_str("__extension__ typedef unsigned __int128 flow_uint128;\n\n")?;
+        print_of_chart(out, "__extension__ typedef __int128 ", chart, "int128;\n")?;
+        print_of_chart(
+            out,
+            "__extension__ typedef unsigned __int128 ",
+            chart,
+            "uint128;\n\n",
+        )?;
     }
     Ok(())
 }
@@ -268,7 +289,7 @@ fn print_front(out: &mut String, made: &Made<'_>, uses: &Uses, calls: u64) -> Re
         shape.notes,
         calls,
     )?;
-    print_wide(out, any_wide(made, uses))?;
+    print_wide(out, made.name, any_wide(made, uses))?;
     print_declarations(out, made, uses)
 }
 

@@ -4,6 +4,7 @@ use Rattle.std.specs.Prelude.{decimal, slice_index_or, if◌then◌else◌}
 use Rattle.flow_base.specs.declared.bounds.Bounds.{Bounds}
 use Rattle.c_subset.specs.Trees.{Function}
 use Rattle.c_subset.specs.Lines.{lines_of}
+use Rattle.c_names.specs.Stems.{name_of_chart}
 use Rattle.c_text.specs.Labels.{Labels}
 use Rattle.c_text.specs.Functions.{prototype_text, function_text}
 use Rattle.c_header.specs.Identity.{identity_text, sum_numbers}
@@ -32,7 +33,8 @@ other_comments =
     ∷ codes "the greatest whole number that is at most a / b"
     ∷ codes "the greatest whole number that is at most a / b"
     ∷ codes "the greatest whole number that is at most a / b"
-    ∷ codes "the greatest whole number that is at most a / b" ∷ codes "the start" ∷ codes "a reaction" ∷ []
+    ∷ codes "the greatest whole number that is at most a / b" ∷ codes "the first values of all data"
+    ∷ codes "the start" ∷ codes "a reaction" ∷ []
 
 -- what a function does: what is said of a procedure, and of one after those what it is
 unfoldable pub comment_of : List (List ℕ) → ℕ → List ℕ
@@ -50,19 +52,24 @@ opening_text chart identity =
     identity_text chart identity
     ++ ((codes "   " ++ chart) ++ ((codes ".h says how it is used. */\n#include \"" ++ chart) ++ codes ".h\"\n\n"))
 
--- CHARTNAME == NUMBER, after other words
+-- words, and one of the chart's names, whose word goes on with other text
+abbrev pub named_text : List ℕ → List ℕ → List ℕ → List ℕ
+named_text front chart back = front ++ name_of_chart chart back
+
+-- CHART_NAME == NUMBER, after other words
 unfoldable pub number_is : List ℕ → List ℕ → List ℕ → ℕ → List ℕ
-number_is front chart name number = (front ++ chart) ++ (name ++ decimal number)
+number_is front chart name number = named_text front chart name ++ decimal number
 
 -- that the header has these bounds, and these numbers of outputs, notes and calls
 unfoldable pub sizes_fit : List ℕ → Bounds → ℕ → ℕ → ℕ → List ℕ
 sizes_fit chart bounds outputs notes calls =
-    (codes "/* C refuses this type where the header has another of these numbers. */\ntypedef char " ++ chart)
-    ++ (number_is (codes "_header_fits[((") chart (codes "_DEPTH == ") bounds.depth
-    ++ (number_is (codes ")\n    && (") chart (codes "_STEPS == ") bounds.steps
-    ++ (number_is (codes ")\n    && (") chart (codes "_OUTPUTS == ") outputs
-    ++ (number_is (codes ")\n    && (") chart (codes "_NOTES == ") notes
-    ++ number_is (codes ")\n    && (") chart (codes "_CALLS == ") calls))))
+    named_text (codes "/* C refuses this type where the header has another of these numbers. */\ntypedef char ") chart
+    (codes "header_fits[((")
+    ++ (number_is [] chart (codes "DEPTH == ") bounds.depth
+    ++ (number_is (codes ")\n    && (") chart (codes "STEPS == ") bounds.steps
+    ++ (number_is (codes ")\n    && (") chart (codes "OUTPUTS == ") outputs
+    ++ (number_is (codes ")\n    && (") chart (codes "NOTES == ") notes
+    ++ number_is (codes ")\n    && (") chart (codes "CALLS == ") calls))))
 
 -- A type that C refuses where the header has other bounds, other numbers of outputs, notes or calls, or the sum of
 -- another chart than the source: its size would be negative. So the struct of the header is that of the source.
@@ -73,11 +80,11 @@ fits_text chart identity bounds outputs notes calls =
     ++ codes ")) ? 1 : -1];\n\n")
 
 -- the types of 128 bits, where one is named
-abbrev pub wide_text : Bool → List ℕ
-wide_text true =
-    codes "__extension__ typedef __int128 flow_int128;\n"
-    ++ codes "__extension__ typedef unsigned __int128 flow_uint128;\n\n"
-wide_text false = []
+abbrev pub wide_text : List ℕ → Bool → List ℕ
+wide_text chart true =
+    named_text (codes "__extension__ typedef __int128 ") chart (codes "int128;\n")
+    ++ named_text (codes "__extension__ typedef unsigned __int128 ") chart (codes "uint128;\n\n")
+wide_text chart false = []
 
 -- the declaration of a function that is written; the header has those that are called from outside
 unfoldable pub declared_text : Labels → List Bool → ℕ → List ℕ
@@ -106,7 +113,7 @@ abbrev pub front_text : Labels → Identity → Bounds → ℕ → ℕ → ℕ �
 front_text L identity bounds outputs notes calls functions written =
     opening_text L.chart identity
     ++ (fits_text L.chart identity bounds outputs notes calls
-    ++ (wide_text (any_wide written 0 functions) ++ declarations_text L written 0 functions))
+    ++ (wide_text L.chart (any_wide written 0 functions) ++ declarations_text L written 0 functions))
 
 -- the source of this making, of those of the functions that are written, for these bounds, a struct with room for so
 -- many outputs and notes, and a header that has this number of calls

@@ -12,6 +12,7 @@ use crate::comments::print_comment;
 use crate::known::{Uses, is_outside};
 use crate::made::Made;
 use c_header::{Identity, print_identity, print_sum_numbers};
+use c_names::print_chart_name;
 use c_text::{function_kind, print_function, print_prototype};
 use code_fields::print_number;
 use flow_base::{Bounds, Memory};
@@ -79,6 +80,20 @@ fn print_opening(
     Ok(())
 }
 
+/// Appends words, and one of the chart's names in C, whose word goes on with other text.
+fn print_of_chart(
+    out: &mut String,
+    front: &str,
+    chart: &str,
+    back: &str,
+) -> Result<(), AllocError>
+    ensures { OnOk result (string_bytes out.new
+        ≡ string_bytes out.old ++ spec.named_text front.now chart.now back.now) }
+{
+    out.push_str(front)?;
+    print_chart_name(out, chart, back)
+}
+
 /// Appends words, and that a number of the header is this one.
 #[tactic(auto, unfolding(crate::specs::Source::number_is))]
 fn print_number_is(
@@ -91,8 +106,8 @@ fn print_number_is(
     ensures { OnOk result (string_bytes out.new
         ≡ string_bytes out.old ++ spec.number_is front.now chart.now name.now number) }
 {
-    print_named(out, front, chart)?;
-    print_number(out, name, number)?;
+    print_of_chart(out, front, chart, name)?;
+    print_number(out, "", number)?;
     Ok(())
 }
 
@@ -109,34 +124,35 @@ fn print_sizes_fit(
     ensures { OnOk result (string_bytes out.new
         ≡ string_bytes out.old ++ spec.sizes_fit chart.now bounds outputs notes calls) }
 {
-    print_named(
+    print_of_chart(
         out,
         "/* C refuses this type where the header has another of these numbers. */\ntypedef char ",
         chart,
+        "header_fits[((",
     )?;
     print_number_is(
         out,
-        "_header_fits[((",
+        "",
         chart,
-        "_DEPTH == ",
+        "DEPTH == ",
         u64::from(bounds.depth),
     )?;
     print_number_is(
         out,
         ")\n    && (",
         chart,
-        "_STEPS == ",
+        "STEPS == ",
         u64::from(bounds.steps),
     )?;
     print_number_is(
         out,
         ")\n    && (",
         chart,
-        "_OUTPUTS == ",
+        "OUTPUTS == ",
         u64::from(outputs),
     )?;
-    print_number_is(out, ")\n    && (", chart, "_NOTES == ", notes)?;
-    print_number_is(out, ")\n    && (", chart, "_CALLS == ", calls)?;
+    print_number_is(out, ")\n    && (", chart, "NOTES == ", notes)?;
+    print_number_is(out, ")\n    && (", chart, "CALLS == ", calls)?;
     Ok(())
 }
 
@@ -164,13 +180,18 @@ fn print_fits(
 }
 
 /// Appends the types of 128 bits, where one is named.
-fn print_wide(out: &mut String, wide: bool) -> Result<(), AllocError>
+fn print_wide(out: &mut String, chart: &str, wide: bool) -> Result<(), AllocError>
     ensures { OnOk result
-        (string_bytes out.new ≡ string_bytes out.old ++ spec.wide_text wide) }
+        (string_bytes out.new ≡ string_bytes out.old ++ spec.wide_text chart.now wide) }
 {
     if wide {
-        out.push_str("__extension__ typedef __int128 flow_int128;\n")?;
-        out.push_str("__extension__ typedef unsigned __int128 flow_uint128;\n\n")?;
+        print_of_chart(out, "__extension__ typedef __int128 ", chart, "int128;\n")?;
+        print_of_chart(
+            out,
+            "__extension__ typedef unsigned __int128 ",
+            chart,
+            "uint128;\n\n",
+        )?;
     }
     Ok(())
 }
@@ -293,7 +314,7 @@ fn print_front(
 {
     print_opening(alloc, out, made.name, identity)?;
     print_fits(alloc, out, made, calls, identity)?;
-    print_wide(out, any_wide(made, uses))?;
+    print_wide(out, made.name, any_wide(made, uses))?;
     print_declarations(out, made, uses)
 }
 

@@ -92,6 +92,15 @@ front_told one other e = at (is_taken one) (is_taken other) refl refl e
     at false true p q same = absurd (never other one p (sym same))
     at false false p q same = same
 
+-- none is read as `va`: that one is taken
+pub va_taken : (chart : List ℕ) → front chart ≡ codes "va" → ⊥
+unfolding front is_taken
+va_taken chart e = at (is_taken chart) refl e
+  where
+    at : (b : Bool) → is_taken chart ≡ b → cond b (codes "flow_" ++ chart) chart ≡ codes "va" → ⊥
+    at true is same = let first = ap (λ (t : List ℕ). get_or t 0 0) same in omega (arith, first)
+    at false is same = let taken : is_taken chart ≡ true = ap is_taken same in cc
+
 -- a text has at least one part
 some_parts : (b : Bool) (text : List ℕ) → 1 ≤ length (parts b text)
 unfolding parts push

@@ -1,5 +1,5 @@
 -- No name at file scope is one that C99 keeps for its library.
-use Rattle.std.proofs.Common.{◌≡◌, ◌≢◌, ℕ, zero, suc, ◌≤◌, ◌<◌, Bool, true, false, ◌||◌, ◌&&◌, not, cond, List, [], ◌∷◌}
+use Rattle.std.proofs.Common.{◌≡◌, ◌≢◌, ℕ, zero, suc, ◌-◌, ◌≤◌, ◌<◌, Bool, true, false, ◌||◌, ◌&&◌, not, cond, List, [], ◌∷◌}
 use Rattle.std.proofs.Common.{◌++◌, ◌⊎◌, inl, inr, length, map, drop, get_or, refl, sym, ap, ◌∙◌, subst, arith, ⊎_elim}
 use Rattle.std.specs.Prelude.{codes, decimal, nat_eq, chars, encode_utf8}
 use Rattle.std.specs.List.{AllByRecursion, flat_map, list_all, list_any, range_with_len, starts_with}
@@ -20,7 +20,7 @@ use Rattle.c_text.proofs.WordLemmas.{neither, none_of}
 use Rattle.c_header.specs.Scope.{event_words, test_word, test_words, fixed_words, scope_words, scope_labels}
 use Rattle.c_header.proofs.NameLists.{all_at, all_both, all_map, all_events}
 use Rattle.c_header.proofs.PathNames.{push, parts, letter_plain, letter_line, doubled-first, IsPart, part_of_name}
-use Rattle.c_header.proofs.ChartNames.{front, name_parts, plain_words, IsPlain}
+use Rattle.c_header.proofs.ChartNames.{front, name_parts, plain_words, va_taken, IsPlain}
 
 -- ---- what stands after a name with each `_` doubled
 
@@ -427,3 +427,79 @@ is_apart name = not (is_ours (behind false name)) || bytes_eq (get_or (parts fal
 library_apart : list_all is_apart library_names ≡ true
 unfolding is_apart is_ours behind parts push
 library_apart = refl
+
+-- a name that begins otherwise than the one that is replaced
+begins_otherwise : List ℕ → Bool
+begins_otherwise name = not (nat_eq (get_or name 0 0) 70 && (nat_eq (get_or name 1 0) 76 && nat_eq (get_or name 2 0) 79))
+
+library_other : list_all begins_otherwise library_names ≡ true
+unfolding begins_otherwise
+library_other = refl
+
+-- ---- all names at file scope
+
+-- what stands before the first `_` isn't `va`
+no_va : (chart : List ℕ) → bytes_eq (front chart) (codes "va") ≡ false
+no_va chart = ⊎_elim
+    (λ same. absurd (clash ((bytes_eq-Decides (front chart) (codes "va")).0 same)))
+    (λ no_one. no_one)
+    (cases_Bool (bytes_eq (front chart) (codes "va")))
+  where
+    clash : front chart ≡ codes "va" → ⊥
+    clash e = va_taken chart e
+
+-- a word that is one of ours
+IsOurs : List ℕ → Type 0
+IsOurs word = is_ours word ≡ true
+
+library_free : (chart word : List ℕ) → IsPart chart → IsPlain word → IsOurs word
+    → list_any (bytes_eq (name_of_chart chart word)) library_names ≡ false
+unfolding IsOurs is_apart
+library_free chart word p plain ours =
+    none_of is_apart library_names (name_of_chart chart word) library_apart
+    (ap (λ (t : List ℕ). not (is_ours t) || bytes_eq (get_or (parts false (name_of_chart chart word)) 0 []) (codes "va"))
+    (behind_chart chart word p plain)
+    ∙ ap (λ (b : Bool). not b || bytes_eq (get_or (parts false (name_of_chart chart word)) 0 []) (codes "va")) ours
+    ∙ ap (λ (ts : List (List ℕ)). bytes_eq (get_or ts 0 []) (codes "va")) (name_parts chart word p plain) ∙ no_va chart)
+
+our_words : (K : Shape) → AllByRecursion IsOurs (scope_words K)
+unfolding IsOurs is_ours
+our_words K =
+    let ofs : List (List ℕ) = event_words K.names.events in
+    let ins : List (List ℕ) = test_words K.tree K.names in
+    all_both IsOurs (function_words K.procs) (fixed_words ++ (ofs ++ ins))
+    (all_both IsOurs (numbered_labels (codes "p") K.procs) other_words
+    (all_map IsOurs (λ k. codes "p" ++ decimal k) (range_with_len 0 K.procs) (λ k. refl))
+    (refl, (refl, (refl, (refl, (refl, (refl, (refl, (refl, (refl, (refl, tt)))))))))))
+    (all_both IsOurs fixed_words (ofs ++ ins)
+    (refl, (refl, (refl, (refl, (refl, (refl, (refl, (refl, (refl, (refl, (refl, (refl, (refl, (refl, (refl, (refl,
+    tt))))))))))))))))
+    (all_both IsOurs ofs ins (all_events IsOurs K.names.events (λ name. refl))
+    (all_map IsOurs (test_word K.tree K.names) (range_with_len 1 (state_count K.tree - 1)) (λ x. refl))))
+
+guard_free : (chart : List ℕ) → is_reserved (guard_of_chart chart) ≡ false
+unfolding is_reserved guard_of_chart begins_otherwise
+guard_free chart = none_of begins_otherwise library_names (guard_of_chart chart) library_other refl
+
+nothing_free : is_reserved [] ≡ false
+unfolding is_reserved
+nothing_free = refl
+
+name_free : (chart word : List ℕ) → IsPart chart → IsPlain word → IsOurs word
+    → is_reserved (name_of_chart chart word) ≡ false
+unfolding is_reserved
+name_free chart word p plain ours =
+    neither (begins_reserved (name_of_chart chart word)) (list_any (bytes_eq (name_of_chart chart word)) library_names)
+    (begins_free chart word p) (library_free chart word p plain ours)
+
+-- none is kept by C99
+pub scope_unreserved : (chart : List ℕ) (K : Shape) (i : ℕ) → is_name chart ≡ true
+    → is_reserved (get_or (scope_labels chart K) i []) ≡ false
+scope_unreserved chart K zero named = guard_free chart
+scope_unreserved chart K (suc i) named = ⊎_elim
+    (λ li. ap is_reserved (get_or-map (name_of_chart chart) (scope_words K) i [] [] li)
+    ∙ name_free chart (get_or (scope_words K) i []) (part_of_name chart named)
+    (all_at IsPlain (scope_words K) i (plain_words K) li) (all_at IsOurs (scope_words K) i (our_words K) li))
+    (λ pi. ap is_reserved (get_or_past (map (name_of_chart chart) (scope_words K)) i []
+    (omega (arith, pi, length-map (scope_words K) (name_of_chart chart)))) ∙ nothing_free)
+    (cases_lt i (length (scope_words K)))

@@ -13,6 +13,7 @@ ghost use Rattle.c_text.specs.Labels.{Labels, labels_for, row_labels, field_labe
 ghost use Rattle.c_header.specs.declared.paths.Form.TheVariants.{Label};
 ghost use Rattle.c_header.specs.Header.{struct_text};
 ghost use Rattle.c_header.specs.Paths.{path_text};
+ghost use Rattle.c_names.specs.Reserved.{is_reserved};
 ghost use Rattle.c_names.specs.Stems.{guard_of_chart};
 ghost use Rattle.c_header.specs.Scope.{HasNamedTree, scope_labels};
 ghost use Rattle.c_header.specs.Struct.{DeclaresStruct, IsAny, struct_fields, struct_rows};
@@ -40,6 +41,12 @@ pub fn names_of_two_charts_are_different()
 pub fn no_name_of_the_header_is_a_keyword()
     ensures { (chart : List ℕ) (K : Shape) (i : ℕ)
         → is_keyword (slice_index_or (scope_labels chart K) i []) ≡ false }
+{}
+
+/// None of them is one that C99 keeps for its library.
+pub fn no_name_of_the_header_is_reserved()
+    ensures { (chart : List ℕ) (K : Shape) (i : ℕ) → is_name chart ≡ true
+        → is_reserved (slice_index_or (scope_labels chart K) i []) ≡ false }
 {}
 
 /// The name that the header's first lines define, which C replaces wherever it stands, is that of

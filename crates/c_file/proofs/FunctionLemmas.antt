@@ -25,7 +25,7 @@ use Rattle.c_file.specs.Made.{IsMade, functions_of}
 pub no_function : Function
 no_function = record { result = Truth; parameters = []; body = End }
 
--- those of procedures stand first, then eight others, then the start and the reaction
+-- those of procedures stand first, then eight others, then those that are called from outside
 first_count : (k : Code) (T : Tests) (b : Bounds) (room : ℕ) (bodies : ℕ → plan.Block)
     → length (functions_c (shape_of k T b room) bodies) ≡ length k.procedures.procs + 8
 unfolding functions_c
@@ -35,11 +35,11 @@ first_count k T b room bodies =
     ∙ ap (λ (n : ℕ). n + 8)
     (range-length (λ q. procedure_c (shape_of k T b room) (bodies q)) 0 (length k.procedures.procs))
 
--- there are ten after those of procedures
+-- there are eleven after those of procedures
 file_count : (k : Code) (T : Tests) (b : Bounds) (room : ℕ) (bodies : ℕ → plan.Block)
-    → length (file_of k T b room bodies).functions ≡ length k.procedures.procs + 10
+    → length (file_of k T b room bodies).functions ≡ length k.procedures.procs + 11
 file_count k T b room bodies =
-    let all : length (file_of k T b room bodies).functions ≡ length (functions_c (shape_of k T b room) bodies) + 2 =
+    let all : length (file_of k T b room bodies).functions ≡ length (functions_c (shape_of k T b room) bodies) + 3 =
     length-append (functions_c (shape_of k T b room) bodies) _ in
     omega (arith, all, first_count k T b room bodies)
 
@@ -49,12 +49,12 @@ loops_count fs p zero = refl
 loops_count [] p (suc n) = refl
 loops_count (f ∷ fs) p (suc n) = ap suc (loops_count fs (suc p) n)
 
-pub functions_count : (made : Made) → IsMade made → made.shape.procs + 10 ≡ length (functions_of made)
+pub functions_count : (made : Made) → IsMade made → made.shape.procs + 11 ≡ length (functions_of made)
 unfolding functions_of
 functions_count made is =
     let k : Code = code_of made.code.now in
     let file : File = file_of k (shape_seen made.shape).tests made.shape.bounds made.shape.outputs (plans_of k) in
-    ap (λ (K : Shape). K.procs + 10) is.shape
+    ap (λ (K : Shape). K.procs + 11) is.shape
     ∙ sym (loops_count file.functions 0 (length k.procedures.procs)
     ∙ file_count k (shape_seen made.shape).tests made.shape.bounds made.shape.outputs (plans_of k))
 

@@ -5,7 +5,8 @@ use Rattle.flow_base.specs.declared.bounds.Bounds.{Bounds}
 use Rattle.flow_base.specs.declared.fault.Fault.{Fault}
 use Rattle.flow_base.specs.declared.fault.Fault.TheVariants as faults
 use Rattle.actions.specs.Names.{Names}
-use Rattle.actions.specs.Runs.{EventWithInputs, Moment}
+use Rattle.actions.specs.declared.expr.Value.{Value}
+use Rattle.actions.specs.Runs.{EventWithInputs, Moment, AreInputValues}
 use Rattle.checked_chart.specs.Chart.{Chart}
 use Rattle.checked_chart.specs.Valid.{IsValid}
 use Rattle.sos_rules.specs.Reactions.{RulesRun}
@@ -16,11 +17,12 @@ use Rattle.code_counts.specs.Needed.{IsLimit}
 use Rattle.code_counts.specs.declared.numbers.Limits.{Limits}
 use Rattle.code_shrink.specs.RunsAlike.{with_names, RunAlike}
 use Rattle.chart_code.specs.Bodies.{code_of_chart}
-use Rattle.chart_code.proofs.Whole.{code_runs}
+use Rattle.c_functions.specs.Inputs.{with_inputs}
 use Rattle.c_functions.specs.Moments.{MayEnd, MayEndIn}
 use Rattle.c_functions.specs.Plans.{Tests}
-use Rattle.c_runs.specs.Claims.{Serves}
+use Rattle.c_runs.specs.Claims.{Serves, with_first}
 use Rattle.c_runs.proofs.EachMoment.{run_ends}
+use Rattle.c_runs.proofs.Given.{code_runs-with}
 
 -- a run may end so where that is known of the limits that are tested
 both_end : (T : Tests) (steps depth : Bool) → T.steps ≡ steps → T.depth ≡ depth → (x : Option Fault)
@@ -61,14 +63,18 @@ pub limits_serve : (c : Chart) (b : Bounds) (k : Code) (T : Tests) (found : Limi
     → T.depth ≡ found.tests_depth → Serves c b k T found.bounds found.outputs
 unfolding code_of_chart
 limits_serve c b k T found valid names same limit steps depth = record {
-  runs = λ events moments run.
-      subst (λ (n : Names). CodeRun (with_names n k) found.bounds events moments) (sym names) (runs events moments run);
-  ends = λ events moments given run.
-      limits_end b k T found limit steps depth c.names events moments (runs events moments run);
+  runs = λ given events moments values run.
+      subst (λ (n : Names). CodeRun (with_names (with_inputs given n) k) found.bounds events moments) (sym names)
+      (runs given events moments values run);
+  ends = λ given events moments values all run.
+      limits_end b k T found limit steps depth (with_inputs given c.names) events moments
+      (runs given events moments values run);
 }
   where
-    runs : (events : List EventWithInputs) (moments : List Moment) → RulesRun c b events moments
-        → CodeRun (with_names c.names k) found.bounds events moments
-    runs events moments run =
-        (limit.runs c.names events moments).0
-        ((same c.names events moments).0 ((code_runs c valid b events moments).0 run))
+    runs : (given : List (Option Value)) (events : List EventWithInputs) (moments : List Moment)
+        → AreInputValues c.names 0 given → RulesRun (with_first given c) b events moments
+        → CodeRun (with_names (with_inputs given c.names) k) found.bounds events moments
+    runs given events moments values run =
+        (limit.runs (with_inputs given c.names) events moments).0
+        ((same (with_inputs given c.names) events moments).0
+        ((code_runs-with given c values valid b events moments).0 run))

@@ -1,5 +1,5 @@
 -- The struct of the header is that of the source.
-use Rattle.std.proofs.Common.{◌≡◌, ℕ, List, [], ◌∷◌, ◌++◌, map, sym, ap, ◌∙◌, subst}
+use Rattle.std.proofs.Common.{◌≡◌, ℕ, List, [], ◌++◌, map, replicate, sym, ap, ◌∙◌, subst}
 use Rattle.flow_base.specs.declared.bounds.Bounds.{Bounds}
 use Rattle.active_config.specs.Tree.{Tree}
 use Rattle.actions.specs.Names.{Names}
@@ -18,7 +18,7 @@ module _ (k k' : Code) (T T' : Tests) (b b' : Bounds) (room room' : ℕ)
   abbrev pub values_by : Names → Tree → List CValue
   values_by n t =
       map (λ (v : Var). record { type = field_type v.sort; value = v.init }) n.vars
-      ++ zero_word ∷ zero_word ∷ zero_word ∷ zero_word ∷ zero_word ∷ state_values t
+      ++ (replicate 6 zero_word ++ state_values t)
 
   -- it is the same
   values_same : first_values (shape_of k T b room) ≡ first_values (shape_of k' T' b' room')

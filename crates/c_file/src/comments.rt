@@ -143,8 +143,9 @@ fn other_comment(place: usize) -> &'static str
         1 => "whether a state is active and has no active child",
         2 => "calls a noted action",
         3 | 4 | 5 | 6 | 7 => "the greatest whole number that is at most a / b",
-        8 => "the start",
-        9 => "a reaction",
+        8 => "the first values of all data",
+        9 => "the start",
+        10 => "a reaction",
         _ => "",
     }
 }

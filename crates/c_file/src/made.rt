@@ -10,7 +10,7 @@ use flow_base::Memory;
 use std::alloc::Global;
 
 /// How many functions there are besides those of procedures.
-const OTHER_FUNCTIONS: u32 = 10;
+const OTHER_FUNCTIONS: u32 = 11;
 
 /// What both files of a chart are made from. Functions are made one at a time.
 #[derive(Drop)]

@@ -32,12 +32,21 @@ returns c =
       hold = facts_hold made printed.written printed.facts printed.hold;
       header_is = printed.header_is ∙ header_is made printed.facts identity;
       source_is = printed.source_is ∙ source_is made printed.written printed.facts identity;
-      runs = λ int s events moments small has given rules.
-          c.loops_run_as_calls.ensures.runs (length (code_of w.code).procedures.procs)
-          (shape_of (code_of w.code) (tests_seen w.tests) w.limits w.outputs)
-          (file_of (code_of w.code) (tests_seen w.tests) w.limits w.outputs (plans_of (code_of w.code)))
-          int s events moments
-          (c.files_of_code_that_serves_run_as_charts.ensures (chart_of c.args.chart.now) identity.bounds
-          (code_of w.code) (tests_seen w.tests) w.limits w.outputs c.shape.ensures.valid
-          is.fits is.serves is.after int s events moments small has given rules);
+      runs = record {
+        runs = λ int s given events moments small has values all rules.
+            c.loops_run_as_calls.ensures.runs (length (code_of w.code).procedures.procs)
+            (shape_of (code_of w.code) (tests_seen w.tests) w.limits w.outputs)
+            (file_of (code_of w.code) (tests_seen w.tests) w.limits w.outputs (plans_of (code_of w.code)))
+            int s given events moments
+            ((c.files_of_code_that_serves_run_as_charts.ensures (chart_of c.args.chart.now) identity.bounds
+            (code_of w.code) (tests_seen w.tests) w.limits w.outputs c.shape.ensures.valid
+            is.fits is.serves is.after).runs int s given events moments small has values all rules);
+        refuses = λ int small.
+            c.loops_run_as_calls.ensures.refuses (length (code_of w.code).procedures.procs)
+            (shape_of (code_of w.code) (tests_seen w.tests) w.limits w.outputs)
+            (file_of (code_of w.code) (tests_seen w.tests) w.limits w.outputs (plans_of (code_of w.code))) int
+            ((c.files_of_code_that_serves_run_as_charts.ensures (chart_of c.args.chart.now) identity.bounds
+            (code_of w.code) (tests_seen w.tests) w.limits w.outputs c.shape.ensures.valid
+            is.fits is.serves is.after).refuses int small);
+      };
     }) c.printed_files.ensures

@@ -45,6 +45,7 @@ class Machine:
         """Counts nothing."""
 
     def start(self):
+        self.called('init')
         return self.result('start')
 
     def react(self, event, inputs):

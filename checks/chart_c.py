@@ -82,7 +82,11 @@ def table_lines(chart):
     yield from event_rows(chart)
     yield '    {NULL, 0, false},'
     yield '};'
-    yield 'bool chart_start(void) { memset(&chart, 0xa5, sizeof chart); return %s_start(&chart); }' % name
+    yield 'bool chart_start(void)'
+    yield '{'
+    yield '    memset(&chart, 0xa5, sizeof chart);'
+    yield '    return %s_init(&chart) && %s_start(&chart);' % (name, name)
+    yield '}'
     yield 'bool chart_react(uint32_t event) { return %s_react(&chart, event); }' % name
     yield 'uint32_t output_count(void) { return chart.outs; }'
     yield 'uint32_t output_at(uint32_t place) { return chart.out[place]; }'

@@ -68,9 +68,14 @@ static void watch(Motor_chart *m)
     }
 }
 
-bool Motor_start(Motor_chart *m)
+bool Motor_init(Motor_chart *m)
 {
     *m = (Motor_chart){.in_target = 40 * ONE_EN8};
+    return true;
+}
+
+bool Motor_start(Motor_chart *m)
+{
     stop(m);
     return true;
 }

@@ -23,6 +23,7 @@ typedef struct {
     RESULTS(1);
 } Motor_chart;
 
+bool Motor_init(Motor_chart *m);
 bool Motor_start(Motor_chart *m);
 bool Motor_react(Motor_chart *m, uint32_t event);
 

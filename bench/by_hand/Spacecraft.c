@@ -257,9 +257,17 @@ static void radio(Spacecraft_chart *m, uint32_t event)
 
 /* ---- the whole */
 
+bool Spacecraft_init(Spacecraft_chart *m)
+{
+    *m = (Spacecraft_chart){.in_volts = 28 * 256};
+    return true;
+}
+
 bool Spacecraft_start(Spacecraft_chart *m)
 {
-    *m = (Spacecraft_chart){.in_volts = 28 * 256, .mission = IDLE, .attitude = SUN, .radio = LOW_GAIN};
+    m->mission = IDLE;
+    m->attitude = SUN;
+    m->radio = LOW_GAIN;
     be_healthy(m);
     return true;
 }

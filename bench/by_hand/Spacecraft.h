@@ -30,6 +30,7 @@ typedef struct {
     RESULTS(2);
 } Spacecraft_chart;
 
+bool Spacecraft_init(Spacecraft_chart *m);
 bool Spacecraft_start(Spacecraft_chart *m);
 bool Spacecraft_react(Spacecraft_chart *m, uint32_t event);
 

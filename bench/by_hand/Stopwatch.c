@@ -32,9 +32,15 @@ static void clear(Stopwatch_chart *m)
     show(m);
 }
 
+bool Stopwatch_init(Stopwatch_chart *m)
+{
+    *m = (Stopwatch_chart){.loc_cent = 97, .loc_sec = 59};
+    return true;
+}
+
 bool Stopwatch_start(Stopwatch_chart *m)
 {
-    *m = (Stopwatch_chart){.state = STOP_RESET, .loc_cent = 97, .loc_sec = 59};
+    m->state = STOP_RESET;
     return true;
 }
 

@@ -14,6 +14,7 @@ typedef struct {
     RESULTS(1);
 } Stopwatch_chart;
 
+bool Stopwatch_init(Stopwatch_chart *m);
 bool Stopwatch_start(Stopwatch_chart *m);
 bool Stopwatch_react(Stopwatch_chart *m, uint32_t event);
 

@@ -13,7 +13,7 @@ static void note(void) {{
 }}
 
 static void start(void) {{
-    if (!G_start(&chart))
+    if (!G_init(&chart) || !G_start(&chart))
         exit(3);
     note();
 }}

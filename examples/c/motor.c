@@ -25,7 +25,7 @@ static uint8_t counter_of(const struct plant *plant)
 static bool recover(Motor_chart *motor)
 {
     printf("fault %u of datum %u: the motor is stopped\n", (unsigned)motor->fault, (unsigned)motor->fault_datum);
-    return Motor_start(motor);
+    return Motor_init(motor) && Motor_start(motor);
 }
 
 static bool handle(Motor_chart *motor, uint32_t event)
@@ -45,7 +45,7 @@ int main(void)
 {
     static Motor_chart motor;
     struct plant plant = {0.0, 0.0, 0};
-    if (!Motor_start(&motor) || !handle(&motor, Motor_E_START)) {
+    if (!Motor_init(&motor) || !Motor_start(&motor) || !handle(&motor, Motor_E_START)) {
         return 1;
     }
     for (int sample = 0; sample < 120; sample++) {

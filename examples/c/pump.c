@@ -29,7 +29,7 @@ static void show(const Pump_chart *pump)
 int main(void)
 {
     static Pump_chart pump;
-    if (!Pump_start(&pump)) {
+    if (!Pump_init(&pump) || !Pump_start(&pump)) {
         return 1;
     }
     for (size_t turn = 0; turn < sizeof turns / sizeof turns[0]; turn++) {

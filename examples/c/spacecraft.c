@@ -47,18 +47,18 @@ static bool handle(Spacecraft_chart *craft, uint32_t event)
         return true;
     }
     printf("    fault %u after %u steps: the manager begins anew\n", (unsigned)craft->fault, (unsigned)craft->used);
-    is_ok = Spacecraft_start(craft);
+    is_ok = Spacecraft_init(craft);
     craft->in_volts = volts;
     craft->in_rate = rate;
     craft->in_locked = locked;
-    return is_ok;
+    return is_ok && Spacecraft_start(craft);
 }
 
 int main(void)
 {
     static Spacecraft_chart craft;
     const char *before = "";
-    if (!Spacecraft_start(&craft)) {
+    if (!Spacecraft_init(&craft) || !Spacecraft_start(&craft)) {
         return 1;
     }
     for (unsigned second = 1; second <= 60; second++) {

@@ -7,3 +7,4 @@ pub mod StoreLemmas
 pub mod RankLemmas
 pub mod NoteLemmas
 pub mod ChildLemmas
+pub mod FaultLemmas

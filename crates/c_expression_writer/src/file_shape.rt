@@ -120,18 +120,25 @@ impl FileShape<'_> {
         self.names.vars.items().len() as u32
     }
 
+    /// The function that stores the first values.
+    pub fn init_function(&self) -> u32
+        ensures { result ≡ plans.init_function (shape_seen self.now) }
+    {
+        self.procs + 8
+    }
+
     /// The function of the start.
     pub fn start_function(&self) -> u32
         ensures { result ≡ plans.start_function (shape_seen self.now) }
     {
-        self.procs + 8
+        self.procs + 9
     }
 
     /// The function of a reaction.
     pub fn react_function(&self) -> u32
         ensures { result ≡ plans.react_function (shape_seen self.now) }
     {
-        self.procs + 9
+        self.procs + 10
     }
 
     /// The field of how many entries of `out[]` are in use.
@@ -162,12 +169,19 @@ impl FileShape<'_> {
         self.used_field() + 4
     }
 
+    /// The field that tells whether a run goes on.
+    pub fn ready_field(&self) -> u32
+        ensures { result ≡ plans.ready_field (shape_seen self.now) }
+    {
+        self.used_field() + 5
+    }
+
     /// The field of the number of the active child of an OR.
     pub fn chosen_field(&self, state: u32) -> u32
         requires { state < state_count (shape_seen self.now).tree }
         ensures { result ≡ (plans.layout (shape_seen self.now)).chosen state }
     {
-        self.used_field() + 5 + self.ranks[state as usize]
+        self.used_field() + 6 + self.ranks[state as usize]
     }
 
     /// The field of the number of the child that an OR remembers.
@@ -175,7 +189,7 @@ impl FileShape<'_> {
         requires { state < state_count (shape_seen self.now).tree }
         ensures { result ≡ (plans.layout (shape_seen self.now)).kept state }
     {
-        self.used_field() + 5 + self.ors + self.ranks[state as usize]
+        self.used_field() + 6 + self.ors + self.ranks[state as usize]
     }
 
     /// The field of the word that has the bit of a state.
@@ -183,6 +197,6 @@ impl FileShape<'_> {
         requires { state < state_count (shape_seen self.now).tree }
         ensures { result ≡ (plans.layout (shape_seen self.now)).word state }
     {
-        self.used_field() + 5 + self.ors + self.ors + state / 32
+        self.used_field() + 6 + self.ors + self.ors + state / 32
     }
 }

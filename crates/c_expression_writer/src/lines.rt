@@ -17,6 +17,11 @@ use flow_base::{Fault, List, Memory};
 /// Source: this project's choice.
 pub const BAD: u32 = u32::MAX;
 
+/// What is told of a number that is no event: no fault of a run.
+///
+/// Source: this project's choice.
+pub const NO_EVENT: u32 = 5;
+
 /// Appends a line.
 pub fn put(out: &mut List<Line>, line: Line) -> Result<(), Memory>
     ensures { OnOk result (lines_in (items_of out.new)
@@ -54,20 +59,29 @@ fn fault_datum(fault: Fault) -> u32
     }
 }
 
-/// Appends what is done for a fault: it is stored, and the function returns `BAD`.
+/// Appends that a fault and its datum are told, by their numbers, and that the run is over.
+#[tactic(auto, using(std::proofs::Common::append_assoc), unfolding(c_subset::specs::Lines::lines_of))]
+pub fn tell_fault(
+    shape: &FileShape<'_>,
+    out: &mut List<Line>,
+    fault: u32,
+    datum: u32,
+) -> Result<(), Memory>
+    ensures { OnOk result (Appends (items_of out.old) (items_of out.new)
+        (plans.tell_fault (shape_seen shape.now) fault datum)) }
+{
+    put(out, Line::Store(shape.fault_field(), number(fault)))?;
+    put(out, Line::Store(shape.fault_datum_field(), number(datum)))?;
+    put(out, Line::Store(shape.ready_field(), number(0)))
+}
+
+/// Appends what is done for a fault: it is told, and the function returns `BAD`.
 #[tactic(auto, using(std::proofs::Common::append_assoc), unfolding(c_subset::specs::Lines::lines_of))]
 pub fn write_fault(shape: &FileShape<'_>, out: &mut List<Line>, fault: Fault) -> Result<(), Memory>
     ensures { OnOk result (lines_in (items_of out.new)
         ≡ lines_in (items_of out.old) ++ lines_of (faulted (shape_seen shape.now) fault)) }
 {
-    put(
-        out,
-        Line::Store(shape.fault_field(), number(fault_number(fault))),
-    )?;
-    put(
-        out,
-        Line::Store(shape.fault_datum_field(), number(fault_datum(fault))),
-    )?;
+    tell_fault(shape, out, fault_number(fault), fault_datum(fault))?;
     put(out, Line::Return(number(BAD)))
 }
 

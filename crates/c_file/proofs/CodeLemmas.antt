@@ -2,16 +2,15 @@
 use Rattle.std.proofs.Common.{◌≡◌, ◌<◌, ℕ, List, length, refl, sym, ◌∙◌, subst}
 use Rattle.std.specs.List.{All}
 use Rattle.std.proofs.lemmas.List.Elements.{All-weaker}
-use Rattle.std.specs.Prelude.{◌↔◌}
 use Rattle.flow_base.specs.declared.bounds.Bounds.{Bounds}
 use Rattle.active_config.specs.Tree.{Tree, state_count}
 use Rattle.actions.specs.Names.{Names}
-use Rattle.actions.specs.Runs.{EventWithInputs, Moment}
 use Rattle.checked_chart.specs.Chart.{Chart}
 use Rattle.code_language.specs.Code.{Code}
 use Rattle.chart_code.specs.Bodies.{code_of_chart}
-use Rattle.code_language.specs.Reactions.{CodeRun}
 use Rattle.code_language.specs.WellFormed.{IsCode}
+use Rattle.code_shrink.specs.RunsAlike.{RunAlike}
+use Rattle.code_shrink.proofs.RunsAlike.{alike_both}
 use Rattle.code_copies.specs.SameRuns.{HasSameRuns}
 use Rattle.code_copies.proofs.SameRunsLemmas.{same_shrunk, same_both}
 use Rattle.code_passes.specs.declared.tag.Tag.{Tag}
@@ -76,13 +75,11 @@ module _ {c : Chart} {b : Bounds} {k : Code} {tags : List Tag} {origins : List �
             (cut_results b.depth w.faster k w.is_cut);
       }
 
-  -- and under the bounds it has the runs of the chart's code
-  pub written_runs : IsWritten c b k tags origins → IsCode k → (events : List EventWithInputs) (moments : List Moment)
-      → CodeRun (code_of_chart c) b events moments ↔ CodeRun k b events moments
-  written_runs w well events moments =
-      let one = (runs_chart w).runs b events moments in
-      let two = (cut_same_runs w.faster k b well w.is_cut).runs events moments in
-      (λ run. two.0 (one.0 run), λ run. one.1 (two.1 run))
+  -- and under the bounds it runs as the chart's code, whatever the first values of the data are
+  pub written_alike : IsWritten c b k tags origins → IsCode k → RunAlike b (code_of_chart c) k
+  written_alike w well =
+      alike_both b (code_of_chart c) w.faster k ((runs_chart w).runs b)
+      (cut_same_runs w.faster k b well w.is_cut).runs
 
 -- all code that is written for a chart declares the same
 module _ {c : Chart} {b b' : Bounds} {k k' : Code} {tags tags' : List Tag} {origins origins' : List ℕ}

@@ -58,11 +58,12 @@ use Rattle.c_functions.specs.Meaning as p
 use Rattle.c_functions.specs.Meaning.{exec}
 use Rattle.c_functions.specs.Runs.{told, world_of, with_vals}
 use Rattle.c_functions.specs.Layout.{on_c}
-use Rattle.c_functions.specs.Plans.{Shape, layout, helper, faulted, fault_datum, fault_field, fault_datum_field}
+use Rattle.c_functions.specs.Plans.{Shape, layout, helper, faulted, fault_datum}
 use Rattle.c_functions.specs.Plans.{first_free, declared_at, expression_c, assign_c, bad}
 use Rattle.c_functions.specs.Plans.{fault_number, plan_c}
 use Rattle.c_functions.specs.Failing.{divides, is_error}
-use Rattle.c_functions.specs.Files.{Represents}
+use Rattle.c_functions.specs.Plans.{leading}
+use Rattle.c_functions.specs.Files.{with_fault, Represents}
 use Rattle.c_functions.proofs.Failing.{FailsBy, or-left, value-fails, assigned-fails}
 use Rattle.c_functions.proofs.Noting.{or-right}
 use Rattle.c_functions.proofs.Tests.{unsigned, on-has}
@@ -181,10 +182,8 @@ fault_number-small faults.Zero = omega arith
 fault-shows : (K : Shape) (m : CMemory) (s : Store) (x : Fault) → Represents K None m s
     → length m.vals ≡ length K.names.vars → fault_datum (Some x) < 2 ^ 32 → Represents K (Some x) m (told_c K x s)
 fault-shows K m s x h long small =
-    subst (λ (d : ℕ). Represents K (Some x) m
-    (with_field (with_field s (fault_field K) (unsigned W32 (fault_number (Some x)))) (fault_datum_field K)
-    (unsigned W32 d))) (sym (mod-eq_of_lt small))
-    (fault-told K None m s h long (Some x) (fault_number-small x) small)
+    subst (λ (d : ℕ). Represents K (Some x) m (with_fault K s (fault_number (Some x)) d)) (sym (mod-eq_of_lt small))
+    (fault-told K None m s h long x (fault_number-small x) small)
 
 -- ---- marks that fields tell
 
@@ -289,8 +288,8 @@ module _ (K : Shape) (int : Width) (fit : IsFit K int) (bodies : ℕ → plan.Bl
             active = active m s at.shows;
             int_is = omega (arith, fit.most);
             divides = has.divides s;
-            returning = returning K int fit bodies call turns_left calls k c0 u0 f0 p0 now s _ _ at.shows.fault_is
-                at.shows.datum_is;
+            returning = returning K int fit bodies call turns_left calls k c0 u0 f0 p0 now s _ _ _ at.shows.fault_is
+                at.shows.datum_is at.shows.ready_is;
             there = there;
             sorted = sorted;
             takes = subst (λ (so : Sort). assignment_fault so typed.sort ≡ None) (sym sort_is) typed.takes;
@@ -331,7 +330,7 @@ module _ (K : Shape) (int : Width) (fit : IsFit K int) (bodies : ℕ → plan.Bl
           (at-locals K int fit bodies call turns_left calls k c0 u0 f0 p0 now c (record m { vals = vals }) l
           (with_field s v end.0) loc end.1 (agree-less 6 7 loc end.1 (omega arith) end.3)
           (at-memory K c0 u0 p0 now c c m (record m { vals = vals }) l s (with_field s v end.0) loc at
-          (vals-put K None m s at.shows at.fine.long vals v end.0 within end.4)
+          (vals-put K 0 0 (leading K) m s at.shows vals v end.0 within end.4)
           (record {
             chosen = at.fine.chosen;
             flags = at.fine.flags;
@@ -383,7 +382,8 @@ module _ (K : Shape) (int : Width) (fit : IsFit K int) (bodies : ℕ → plan.Bl
 
       returns : Returning int calls k (faulted K) (told_c K) (unsigned W32 bad) s
       returns =
-          returning K int fit bodies call turns_left calls k c0 u0 f0 p0 now s _ _ at.shows.fault_is at.shows.datum_is
+          returning K int fit bodies call turns_left calls k c0 u0 f0 p0 now s _ _ _ at.shows.fault_is at.shows.datum_is
+          at.shows.ready_is
 
       by : (r : Valued) → value_of m.vals (told K.tree K.numbers m.states) e ≡ r → IfOk r (HasSort kinds.Flag)
           → Gives K.names Any r → EndsAs int s 7 (expression_c K e) loc r

@@ -10,7 +10,7 @@ use Rattle.active_config.specs.Tree.{state_count, parent_of, comp_of}
 use Rattle.actions.specs.Data.{HaveTheirSorts}
 use Rattle.actions.specs.Work.{Now}
 use Rattle.actions.specs.World.{of_data, of_names}
-use Rattle.c_subset.specs.Trees.{Field, Compare, Block, End, If}
+use Rattle.c_subset.specs.Trees.{Field, Compare, Block, End, If, Return}
 use Rattle.c_subset.specs.declared.trees.Width.{Width}
 use Rattle.c_subset.specs.declared.trees.Width.TheVariants.{W32}
 use Rattle.c_subset.specs.declared.trees.Comparison.TheVariants.{IsAtLeast}
@@ -28,11 +28,11 @@ use Rattle.c_functions.specs.Runs.{own_sums}
 use Rattle.c_functions.specs.Layout.{IsLayout}
 use Rattle.c_functions.specs.Moments.{MayEnd}
 use Rattle.c_functions.specs.Plans.{Shape, Tests, layout, used_field, outs_field, noted_field, fault_field}
-use Rattle.c_functions.specs.Plans.{fault_datum_field}
+use Rattle.c_functions.specs.Plans.{fault_datum_field, ready_field, tell_fault}
 use Rattle.c_functions.specs.Plans.{fault_number, fault_datum, event_number, bad, word, number, faulted, pay_c}
 use Rattle.c_functions.specs.Plans.{count_up}
 use Rattle.c_functions.specs.Plans.{plan_c, out_row, note_row}
-use Rattle.c_functions.specs.Files.{HasWord, Represents}
+use Rattle.c_functions.specs.Files.{HasWord, with_fault, Represents}
 use Rattle.c_functions.proofs.Tests.{unsigned}
 use Rattle.c_functions.proofs.Changes.{chooses, keeps, turns}
 use Rattle.c_functions.proofs.Places.{is-layout}
@@ -114,9 +114,27 @@ program_c K bodies = record {
 
 -- the struct after a fault
 abbrev pub told_c : Shape → Fault → Store → Store
-told_c K x s =
-    with_field (with_field s (fault_field K) (unsigned W32 (fault_number (Some x)))) (fault_datum_field K)
-    (unsigned W32 (fault_datum (Some x) % 2 ^ 32))
+told_c K x s = with_fault K s (fault_number (Some x)) (fault_datum (Some x) % 2 ^ 32)
+
+-- a fault is told, and then other statements follow
+pub tell-goes : (K : Shape) (int : Width) → bits int ≤ 32 → (calls : Calls) (k : ℕ) (rest : Block) (s : Store)
+    (l : Locals) (a d r fault datum : ℕ) → HasWord s.fields (fault_field K) a → HasWord s.fields (fault_datum_field K) d
+    → HasWord s.fields (ready_field K) r → fault < 2 ^ 32
+    → outcome int calls k (tell_fault K fault datum rest) s l
+    ≡ outcome int calls k rest (with_fault K s fault (datum % 2 ^ 32)) l
+unfolding meaning
+tell-goes K int most calls k rest s l a d r fault datum ha hd hr small =
+    let f = fault_field K in
+    let g = fault_datum_field K in
+    let one = with_field s f (unsigned W32 fault) in
+    let two = with_field one g (unsigned W32 (datum % 2 ^ 32)) in
+    put-word int most calls k _ s l f a fault _ ha small (number-means int most s l fault small)
+    ∙ put-word int most calls k _ one l g d (datum % 2 ^ 32) _
+    (word-kept s.fields f g d _ (λ e. absurd (omega (arith, e))) hd) (mod-lt datum (omega arith)) refl
+    ∙ put-word int most calls k rest two l (ready_field K) r 0 _
+    (word-kept one.fields g (ready_field K) r _ (λ e. absurd (omega (arith, e)))
+    (word-kept s.fields f (ready_field K) r _ (λ e. absurd (omega (arith, e))) hr))
+    (omega arith) (number-means int most two l 0 (omega arith))
 
 -- a run isn't ended by the bound of steps where steps are tested and aren't
 not-tested : (T : Tests) → MayEnd T (Some faults.Steps) → T.steps ≡ false → ⊥
@@ -251,20 +269,15 @@ module _ (K : Shape) (int : Width) (fit : IsFit K int) (bodies : ℕ → plan.Bl
   EndsIn R o o' = Ends K c0 u0 f0 R o o'
 
   pub is_layout : IsLayout K.tree K.numbers (layout K)
-  is_layout = is-layout K.tree K.numbers (length K.names.vars + 5) fit.numbers
+  is_layout = is-layout K.tree K.numbers (length K.names.vars + 6) fit.numbers
 
   -- a fault is told
-  pub faulted-goes : (s : Store) (l : Locals) (a d : ℕ) → HasWord s.fields (fault_field K) a
-      → HasWord s.fields (fault_datum_field K) d → (x : Fault)
+  pub faulted-goes : (s : Store) (l : Locals) (a d r : ℕ) → HasWord s.fields (fault_field K) a
+      → HasWord s.fields (fault_datum_field K) d → HasWord s.fields (ready_field K) r → (x : Fault)
       → outcome int calls k (faulted K x) s l ≡ Returns (told_c K x s) (unsigned W32 bad)
-  unfolding meaning
-  faulted-goes s l a d ha hd x =
-      let one = with_field s (fault_field K) (unsigned W32 (fault_number (Some x))) in
-      put-word int fit.most calls k _ s l (fault_field K) a _ _ ha (fault_small x)
-      (number-means int fit.most s l (fault_number (Some x)) (fault_small x))
-      ∙ put-word int fit.most calls k _ one l (fault_datum_field K) d _ _
-      (word-kept s.fields (fault_field K) (fault_datum_field K) d _ (λ e. absurd (omega (arith, e))) hd)
-      (mod-lt (fault_datum (Some x)) (omega arith)) refl
+  faulted-goes s l a d r ha hd hr x =
+      tell-goes K int fit.most calls k (Return (number bad)) s l a d r (fault_number (Some x)) (fault_datum (Some x)) ha hd
+      hr (fault_small x)
       ∙ return-gives int calls k (told_c K x s) l bad _ (number-means int fit.most (told_c K x s) l bad (omega arith))
     where
       fault_small : (x : Fault) → fault_number (Some x) < 2 ^ 32
@@ -279,11 +292,9 @@ module _ (K : Shape) (int : Width) (fit : IsFit K int) (bodies : ℕ → plan.Bl
       → EndsIn R (Failed m x) (outcome int calls k (faulted K x) s loc)
   faulted-ends R c m l s loc x h small fails = λ room t. (
     told_c K x s,
-    faulted-goes s loc _ _ h.shows.fault_is h.shows.datum_is x,
-    subst (λ (d : ℕ). Represents K (Some x) m
-        (with_field (with_field s (fault_field K) (unsigned W32 (fault_number (Some x)))) (fault_datum_field K)
-        (unsigned W32 d))) (sym (mod-eq_of_lt small))
-        (fault-told K None m s h.shows h.fine.long (Some x) (number_small x) small),
+    faulted-goes s loc _ _ _ h.shows.fault_is h.shows.datum_is h.shows.ready_is x,
+    subst (λ (d : ℕ). Represents K (Some x) m (with_fault K s (fault_number (Some x)) d)) (sym (mod-eq_of_lt small))
+        (fault-told K None m s h.shows h.fine.long x (number_small x) small),
     fails,
   )
     where
@@ -294,9 +305,9 @@ module _ (K : Shape) (int : Width) (fit : IsFit K int) (bodies : ℕ → plan.Bl
       number_small faults.Zero = omega arith
 
   -- what is written for a fault returns
-  pub returning : (s : Store) (a d : ℕ) → HasWord s.fields (fault_field K) a → HasWord s.fields (fault_datum_field K) d
-      → Returning int calls k (faulted K) (told_c K) (unsigned W32 bad) s
-  returning s a d ha hd x l = faulted-goes s l a d ha hd x
+  pub returning : (s : Store) (a d r : ℕ) → HasWord s.fields (fault_field K) a → HasWord s.fields (fault_datum_field K) d
+      → HasWord s.fields (ready_field K) r → Returning int calls k (faulted K) (told_c K) (unsigned W32 bad) s
+  returning s a d r ha hd hr x l = faulted-goes s l a d r ha hd hr x
 
   -- a step is paid
   pub pay-ends : (R : CMemory → Inner → Store → Locals → Type 0) (c : ℕ) (m : CMemory) (l : Inner) (s : Store)

@@ -258,12 +258,12 @@ module _ (K : Shape) (int : Width) (fit : IsFit K int) (bodies : ℕ → plan.Bl
     asks_on = λ st s x holds lt. home-call K int fit file n (on_function K) x (on_c K.tree (layout K) K.numbers) _ s
         (on-there K bodies file begins_with) lt
         (λ loc. on-has int s loc K.tree K.numbers (layout K) st x fit.most
-        (is-layout K.tree K.numbers (length K.names.vars + 5) fit.numbers) holds lt);
+        (is-layout K.tree K.numbers (length K.names.vars + 6) fit.numbers) holds lt);
     asks_bare = λ st s x holds lt. home-call K int fit file n (bare_function K) x (bare_c K.tree
         (layout K) K.numbers) _ s
         (bare-there K bodies file begins_with) lt
         (λ loc. bare-has int s loc K.tree K.numbers (layout K) st x fit.most
-        (is-layout K.tree K.numbers (length K.names.vars + 5) fit.numbers) holds lt);
+        (is-layout K.tree K.numbers (length K.names.vars + 6) fit.numbers) holds lt);
   }
 
   -- the cursor is set, or there is none

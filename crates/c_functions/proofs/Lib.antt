@@ -45,4 +45,7 @@ pub mod Simulating
 pub mod Functions
 pub mod Codes
 pub mod StartStores
+pub mod KeepsShape
+pub mod Refusing
+pub mod GivenInputs
 pub mod FileRuns

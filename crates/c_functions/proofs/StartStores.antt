@@ -1,7 +1,7 @@
 -- The start stores all fields, and then the struct shows the world before it.
 use Rattle.std.proofs.Common.{◌≡◌, ℕ, zero, suc, ◌+◌, ◌/◌, ◌^◌, ◌<◌, nat_eq, ℤ, pos, negsuc, Bool, true}
 use Rattle.std.proofs.Common.{false, cond, not}
-use Rattle.std.proofs.Common.{List, [], ◌∷◌, ◌++◌, length, map, replicate, Option, Some, None, slice_get, slice_set}
+use Rattle.std.proofs.Common.{List, [], ◌∷◌, ◌++◌, length, map, replicate, Option, Some, slice_get, slice_set}
 use Rattle.std.proofs.Common.{slice_index_or}
 use Rattle.std.proofs.Common.{refl, sym, ap, ◌∙◌, subst, arith, mod-lt, div-add-mod'}
 use Rattle.std.proofs.lemmas.Int.{ints}
@@ -32,9 +32,9 @@ use Rattle.c_functions.specs.States.{no_fields}
 use Rattle.c_functions.specs.Statements.{CMemory}
 use Rattle.c_functions.specs.Layout.{HoldsStates, or_count, or_rank}
 use Rattle.c_functions.specs.Plans.{Shape, layout, word, number, bad, result_local, out_row, note_row}
-use Rattle.c_functions.specs.Files.{HasWord, HasRow, Represents}
+use Rattle.c_functions.specs.Files.{HasWord, HasRow, ShowsMemory}
 use Rattle.c_functions.specs.Moments.{arguments_c}
-use Rattle.c_functions.specs.Starts.{state_values, zero_word, first_values, store_all, outside_c}
+use Rattle.c_functions.specs.Starts.{state_values, zero_word, first_values, store_all, outside_c, first_struct}
 use Rattle.c_functions.proofs.Tests.{unsigned, equal-numbers}
 use Rattle.c_functions.proofs.Words.{number-means, local-means, compare-has, values-given, called-goes, or-got, got}
 use Rattle.c_functions.proofs.Assigns.{mapped}
@@ -151,22 +151,7 @@ data-stay (v ∷ vars) rest h more = (init-stays v.sort v.init h.0, data-stay va
 
 pub first-stay : (K : Shape) → HasInits K.names → AllStay (first_values K)
 unfolding first_values
-first-stay K inits = data-stay K.names.vars _ inits (
-  refl,
-  (
-    refl,
-    (
-      refl,
-      (
-        refl,
-        (
-          refl,
-          states-stay K.tree,
-        ),
-      ),
-    ),
-  ),
-)
+first-stay K inits = data-stay K.names.vars _ inits (same-stay 6 zero_word _ refl (states-stay K.tree))
 
 -- the values of states: numbers, and words after them
 replicate-got : (n i : ℕ) (x : CValue) → i < n → slice_get (replicate n x) i ≡ Some x
@@ -210,15 +195,11 @@ memory_before K = record {
   notes = [];
 }
 
--- the struct with the first values
-abbrev pub first_struct : Shape → List (List Object) → Store
-first_struct K rows = record { fields = map object_of (first_values K); rows = rows }
-
-module _ (K : Shape) (rows : List (List Object)) where
+module _ (K : Shape) (s : Store) where
   -- a value after the data
   later-there : (i : ℕ) (x : CValue)
-      → slice_get (zero_word ∷ zero_word ∷ zero_word ∷ zero_word ∷ zero_word ∷ state_values K.tree) i
-      ≡ Some x → slice_get (first_struct K rows).fields (length K.names.vars + i) ≡ Some (object_of x)
+      → slice_get (replicate 6 zero_word ++ state_values K.tree) i
+      ≡ Some x → slice_get (first_struct K s).fields (length K.names.vars + i) ≡ Some (object_of x)
   unfolding first_values
   later-there i x e =
       mapped object_of (first_values K) (length K.names.vars + i) x
@@ -226,19 +207,20 @@ module _ (K : Shape) (rows : List (List Object)) where
       (length K.names.vars) i (length-map K.names.vars _) ∙ e)
 
   word-there : (i : ℕ)
-      → slice_get (zero_word ∷ zero_word ∷ zero_word ∷ zero_word ∷ zero_word ∷ state_values K.tree) i
-      ≡ Some zero_word → HasWord (first_struct K rows).fields (length K.names.vars + i) 0
+      → slice_get (replicate 6 zero_word ++ state_values K.tree) i
+      ≡ Some zero_word → HasWord (first_struct K s).fields (length K.names.vars + i) 0
   word-there i e = record { there = later-there i zero_word e; small = omega arith }
 
   -- a value of states
   state-there : (i j : ℕ) (x : CValue) → slice_get (state_values K.tree) i ≡ Some x
-      → j ≡ length K.names.vars + 5 + i → slice_get (first_struct K rows).fields j ≡ Some (object_of x)
+      → j ≡ length K.names.vars + 6 + i → slice_get (first_struct K s).fields j ≡ Some (object_of x)
   state-there i j x e at =
-      let same : j ≡ length K.names.vars + suc (suc (suc (suc (suc i)))) = omega (arith, at) in
-      ap (λ (j : ℕ). slice_get (first_struct K rows).fields j) same ∙ later-there (suc (suc (suc (suc (suc i))))) x e
+      let same : j ≡ length K.names.vars + (6 + i) = omega (arith, at) in
+      ap (λ (j : ℕ). slice_get (first_struct K s).fields j) same
+      ∙ later-there (6 + i) x (get-right (replicate 6 zero_word) (state_values K.tree) 6 i refl ∙ e)
 
   datum-there : (v : ℕ) → v < length (initial K.names)
-      → slice_get (first_struct K rows).fields v
+      → slice_get (first_struct K s).fields v
       ≡ Some (record {
         type = field_type (datum (initial K.names) v).sort;
         value = Some (datum
@@ -255,7 +237,7 @@ module _ (K : Shape) (rows : List (List Object)) where
       (mapped (λ (v : Var). record { type = field_type v.sort; value = v.init }) K.names.vars v x.0 x.1))
       ∙ ap (λ (d : Datum). Some (record { type = field_type d.sort; value = Some d.mantissa })) (sym d)
 
-  states-held : HoldsStates K.tree (layout K) (no_fields K.tree) (first_struct K rows)
+  states-held : HoldsStates K.tree (layout K) (no_fields K.tree) (first_struct K s)
   unfolding no_fields
   states-held = record {
     chosen = λ p or.
@@ -281,17 +263,18 @@ module _ (K : Shape) (rows : List (List Object)) where
         };
   }
 
-  pub first-shows : HasRow rows out_row K.outputs [] → HasRow rows note_row K.notes []
-      → Represents K None (memory_before K) (first_struct K rows)
+  pub first-shows : HasRow s.rows out_row K.outputs [] → HasRow s.rows note_row K.notes []
+      → ShowsMemory K 0 0 0 (memory_before K) (first_struct K s)
   first-shows out note = record {
     states = states-held;
     vals = λ v lt. datum-there v lt;
     used = λ t. let e : length K.names.vars + 0 ≡ length K.names.vars = omega arith in
-        subst (λ (i : ℕ). HasWord (first_struct K rows).fields i 0) e (word-there 0 refl);
+        subst (λ (i : ℕ). HasWord (first_struct K s).fields i 0) e (word-there 0 refl);
     outs = word-there 1 refl;
     noted = word-there 2 refl;
     fault_is = word-there 3 refl;
     datum_is = word-there 4 refl;
+    ready_is = word-there 5 refl;
     out = out;
     note = note;
   }

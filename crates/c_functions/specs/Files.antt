@@ -14,6 +14,7 @@ use Rattle.c_subset.specs.declared.trees.Comparison.TheVariants.{IsEqual}
 use Rattle.c_subset.specs.Trees.{Function}
 use Rattle.c_subset.specs.Trees as c
 use Rattle.c_subset.specs.Meaning.{Object, Store}
+use Rattle.c_subset.specs.Running.{with_field}
 use Rattle.c_subset.specs.Helpers.{floor_function}
 use Rattle.c_functions.specs.Claims.{ShowsData}
 use Rattle.c_functions.specs.Statements.{CMemory}
@@ -23,7 +24,8 @@ use Rattle.c_functions.specs.Notes.{noted_in}
 use Rattle.c_functions.specs.Plans.{Shape, Tests, layout, word, number, plays, plan_c, used_field, outs_field}
 use Rattle.c_functions.specs.Plans.{noted_field}
 use Rattle.c_functions.specs.Plans.{event_local, depth_local, base_local, home_local, result_local, cases_of}
-use Rattle.c_functions.specs.Plans.{fault_field, fault_datum_field, fault_number, fault_datum, out_row, note_row}
+use Rattle.c_functions.specs.Plans.{fault_field, fault_datum_field, ready_field, fault_number, fault_datum}
+use Rattle.c_functions.specs.Plans.{ready_of, out_row, note_row}
 
 -- How many entries note[] has: room for a chain of calls of the greatest height for an event and for each of its steps;
 -- one, which nothing uses, where nothing is noted.
@@ -80,7 +82,7 @@ noted_c K = record {
       (event_local ∷ depth_local ∷ base_local ∷ home_local ∷ result_local ∷ []) (c.Return result_local);
 }
 
--- the functions before those of the start and of a reaction
+-- the functions before those that are called from outside
 unfoldable pub functions_c : Shape → (ℕ → plan.Block) → List Function
 functions_c K bodies =
     map (λ p. procedure_c K (bodies p)) (range_with_len 0 K.procs)
@@ -104,14 +106,27 @@ pub record HasRow (rows : List (List Object)) (a size : ℕ) (xs : List ℕ) : T
   pub shown : (i x : ℕ) → slice_get xs i ≡ Some x
       → slice_get row i ≡ Some (record { type = word; value = Some (pos x) })
 
--- the struct shows the memory of a plan, but for steps that aren't counted, and a fault or none
-pub record Represents (K : Shape) (fault : Option Fault) (m : CMemory) (s : Store) : Type 0 where
+-- the struct after a fault is told, and its datum, and that the run is over
+abbrev pub with_fault : Shape → Store → ℕ → ℕ → Store
+with_fault K s fault datum =
+    with_field (with_field (with_field s (fault_field K) (record { type = word; value = pos fault }))
+    (fault_datum_field K) (record { type = word; value = pos datum }))
+    (ready_field K) (record { type = word; value = pos 0 })
+
+-- the struct shows the memory of a plan, but for steps that aren't counted; and these numbers of a fault, of its datum
+-- and of whether a run goes on
+pub record ShowsMemory (K : Shape) (fault datum ready : ℕ) (m : CMemory) (s : Store) : Type 0 where
   pub states : HoldsStates K.tree (layout K) m.states s
   pub vals : ShowsData m.vals s
   pub used : K.tests.steps ≡ true → HasWord s.fields (used_field K) m.used
   pub outs : HasWord s.fields (outs_field K) (length m.outputs)
   pub noted : HasWord s.fields (noted_field K) (length m.notes)
-  pub fault_is : HasWord s.fields (fault_field K) (fault_number fault)
-  pub datum_is : HasWord s.fields (fault_datum_field K) (fault_datum fault)
+  pub fault_is : HasWord s.fields (fault_field K) fault
+  pub datum_is : HasWord s.fields (fault_datum_field K) datum
+  pub ready_is : HasWord s.fields (ready_field K) ready
   pub out : HasRow s.rows out_row K.outputs m.outputs
   pub note : HasRow s.rows note_row K.notes m.notes
+
+-- the struct shows the memory of a plan, and a fault or none
+abbrev pub Represents : Shape → Option Fault → CMemory → Store → Type 0
+Represents K fault m s = ShowsMemory K (fault_number fault) (fault_datum fault) (ready_of K fault) m s

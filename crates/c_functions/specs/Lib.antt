@@ -10,9 +10,11 @@ pub mod Written
 pub mod Runs
 pub mod Writer
 pub mod Layout
+pub mod Events
 pub mod Plans
 pub mod Failing
 pub mod Notes
 pub mod Files
 pub mod Moments
+pub mod Inputs
 pub mod Starts

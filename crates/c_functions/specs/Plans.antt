@@ -25,6 +25,7 @@ use Rattle.c_subset.specs.declared.trees.Case.{Case}
 use Rattle.c_subset.specs.Trees as c
 use Rattle.c_functions.specs.Assigning.{stores_of, assigned_block}
 use Rattle.c_functions.specs.Code.{written}
+use Rattle.c_functions.specs.Events.{leading_events, running_number}
 use Rattle.c_functions.specs.Translation.{Flat, flat, sort_in}
 use Rattle.c_functions.specs.Statements.{Check, Test}
 use Rattle.c_functions.specs.Statements as plan
@@ -78,9 +79,13 @@ fault_field K = length K.names.vars + 3
 abbrev pub fault_datum_field : Shape → ℕ
 fault_datum_field K = length K.names.vars + 4
 
+-- that which tells whether a run goes on
+abbrev pub ready_field : Shape → ℕ
+ready_field K = length K.names.vars + 5
+
 -- and then those of states
 abbrev pub layout : Shape → Layout
-layout K = layout_after K.tree (length K.names.vars + 5)
+layout K = layout_after K.tree (length K.names.vars + 6)
 
 -- the array out[]
 abbrev pub out_row : ℕ
@@ -114,13 +119,17 @@ width_place W128 = 4
 abbrev pub helper : Shape → Width → ℕ
 helper K w = K.procs + 3 + width_place w
 
+-- that which stores the first values
+abbrev pub init_function : Shape → ℕ
+init_function K = K.procs + 8
+
 -- the start
 abbrev pub start_function : Shape → ℕ
-start_function K = K.procs + 8
+start_function K = K.procs + 9
 
 -- the reaction
 abbrev pub react_function : Shape → ℕ
-react_function K = K.procs + 9
+react_function K = K.procs + 10
 
 -- ---- words
 
@@ -186,6 +195,19 @@ fault_datum (Some faults.Steps) = 0
 fault_datum (Some (faults.Overflow v)) = v
 fault_datum (Some faults.Zero) = 0
 
+-- what is told of a number that is no event: no fault of a run
+abbrev pub refused_number : ℕ
+refused_number = 5
+
+-- what `ready` holds while a run goes on: numbers below it are those of events that a run takes, and it isn't 0
+abbrev pub leading : Shape → ℕ
+leading K = running_number (leading_events K.names.events)
+
+-- what `ready` holds where a run had that fault or none; before the start it is 0, too
+abbrev pub ready_of : Shape → Option Fault → ℕ
+ready_of K None = leading K
+ready_of K (Some x) = 0
+
 -- what a function returns after a fault: no result of code
 abbrev pub bad : ℕ
 bad = 4294967295
@@ -200,11 +222,15 @@ count_up f rest = c.Store f (Calc Plus (Field f) (number 1)) rest
 abbrev pub count_down : ℕ → Block → Block
 count_down f rest = c.Store f (Calc Less (Field f) (number 1)) rest
 
--- m->fault = ..; m->fault_datum = ..; return BAD;
+-- m->fault = ..; m->fault_datum = ..; m->ready = 0u; before other statements
+abbrev pub tell_fault : Shape → ℕ → ℕ → Block → Block
+tell_fault K fault datum rest =
+    c.Store (fault_field K) (number fault)
+    (c.Store (fault_datum_field K) (number datum) (c.Store (ready_field K) (number 0) rest))
+
+-- the fault and its datum are told, and that the run is over; return BAD;
 abbrev pub faulted : Shape → Fault → Block
-faulted K x =
-    c.Store (fault_field K) (number (fault_number (Some x)))
-    (c.Store (fault_datum_field K) (number (fault_datum (Some x))) (c.Return (number bad)))
+faulted K x = tell_fault K (fault_number (Some x)) (fault_datum (Some x)) (c.Return (number bad))
 
 -- if (m->used >= STEPS) fault, else m->used = m->used + 1u; where steps aren't tested they aren't counted
 abbrev pub pay_c : Shape → Block → Block

@@ -1,14 +1,15 @@
 //! What holds of the states in the struct, and of the functions of procedures.
-ghost use Rattle.std.specs.Prelude.{◌≡◌, ℕ, ◌<◌, ◌≤◌, ◌^◌, length, slice_set, Some, None, Bool};
+ghost use Rattle.std.specs.Prelude.{◌≡◌, ℕ, ◌<◌, ◌≤◌, ◌^◌, length, slice_set, Option, Some, None, Bool};
 ghost use Rattle.std.specs.Prelude.{true, suc, ◌+◌, ◌*◌, List, []};
 ghost use Rattle.active_config.specs.Tree.{Tree, state_count, parent_of, comp_of};
 ghost use Rattle.active_config.specs.Marks.{Configuration, mark_count};
 ghost use Rattle.c_subset.specs.Trees.{Block, File};
 ghost use Rattle.c_subset.specs.declared.trees.Width.{Width};
-ghost use Rattle.c_subset.specs.Meaning.{bits, one_if, Store, Locals};
-ghost use Rattle.c_subset.specs.Running.{Calls, no_values};
+ghost use Rattle.c_subset.specs.Meaning.{bits, CValue, one_if, Store, Locals};
+ghost use Rattle.c_subset.specs.Running.{Calls, Returns, call, no_values};
 ghost use Rattle.flow_base.specs.declared.bounds.Bounds.{Bounds};
-ghost use Rattle.actions.specs.Runs.{EventWithInputs, Moment};
+ghost use Rattle.actions.specs.declared.expr.Value.{Value};
+ghost use Rattle.actions.specs.Runs.{EventWithInputs, Moment, AreInputValues};
 ghost use Rattle.actions.specs.World.{World};
 ghost use Rattle.actions.specs.Work.{Now};
 ghost use Rattle.code_language.specs.Code.{Code};
@@ -26,9 +27,10 @@ ghost use Rattle.c_functions.specs.Runs.{Stands};
 ghost use Rattle.c_functions.specs.Written.{AreWritten};
 ghost use Rattle.c_functions.specs.Files.{Represents, shape_of, functions_c};
 ghost use Rattle.c_functions.specs.Moments.{HasSmallResults, BeginsWith, EndsAsCode, MayEndIn};
-ghost use Rattle.c_functions.specs.Plans.{Tests};
+ghost use Rattle.c_functions.specs.Plans.{Shape, Tests};
 ghost use Rattle.c_functions.specs.Failing.{AfterIsRight};
-ghost use Rattle.c_functions.specs.Starts.{file_of, HasShape, AllGiven, RunsOn};
+ghost use Rattle.c_functions.specs.Inputs.{with_inputs};
+ghost use Rattle.c_functions.specs.Starts.{file_of, HasShape, AllGiven, RunsOn, Refuses};
 ghost use Rattle.c_functions.specs.Layout.{Layout, IsLayout, HoldsStates, Changes, on_c, bare_c};
 ghost use Rattle.c_functions.specs.Layout.{last_c, put_number, put_bit, layout_after};
 
@@ -106,21 +108,38 @@ pub fn functions_end_as_code()
 {}
 
 /// The file of well-formed code runs as the code: from every struct of its type, whatever it holds,
-/// the start and then each reaction return, and tell whether there was a fault, where int has at
-/// most 32 bits. After each call the struct shows the moment of the code's run: active states,
-/// remembered children, data, outputs, used steps where they are counted, and the fault. So it is
-/// where no moment has the fault of a bound that isn't tested, `out[]` has room for what each puts
-/// out, and the result of each procedure that can fail is tested. A struct without values is such a
-/// struct.
+/// the first values are stored, then those that are given to inputs, and the start and then each
+/// reaction return, and tell whether there was a fault, where int has at most 32 bits. So it is the
+/// run of the code whose inputs have the given values as their first ones. After each call the
+/// struct is one of its type, and shows the moment of that run: active states, remembered
+/// children, data, outputs, used steps where they are counted, the fault, and whether the run goes
+/// on. So it is where no moment has the fault of a bound that isn't tested, `out[]` has room for
+/// what each puts out, and the result of each procedure that can fail is tested. A struct without
+/// values is such a struct, and what any call leaves of one is one, too; so a run can be begun anew
+/// at any time.
 pub fn files_run_as_code()
     ensures runs { (k : Code) (T : Tests) (b : Bounds) (room : ℕ) (bodies : ℕ → Body) (int : Width)
-        (s : Store) (events : List EventWithInputs) (moments : List Moment) → IsCode k →
-        HasStateNames k → HasSmallResults k →
+        (s : Store) (given : List (Option Value)) (events : List EventWithInputs)
+        (moments : List Moment) → IsCode k → HasStateNames k → HasSmallResults k →
         AreWritten k.tree (λ x. suc x) k.procedures bodies → bits int ≤ 32 →
         AfterIsRight T k → HasShape (shape_of k T b room) s →
-        AllGiven k.names events → CodeRun k b events moments →
+        AreInputValues k.names 0 given → AllGiven k.names events →
+        CodeRun (record k { names = with_inputs given k.names }) b events moments →
         AllByRecursion (MayEndIn T room) moments →
-        RunsOn (shape_of k T b room) (file_of k T b room bodies) int s events moments }
+        RunsOn (shape_of k T b room) (file_of k T b room bodies) int s given events moments }
     ensures unset { (k : Code) (T : Tests) (b : Bounds) (room : ℕ) (bodies : ℕ → Body) →
         HasShape (shape_of k T b room) (no_values (file_of k T b room bodies)) }
+    ensures kept { (K : Shape) (file : File) (int : Width) (fuel f : ℕ) (args : List CValue)
+        (s after : Store) (x : CValue) → call file int fuel f args s ≡ Returns after x →
+        HasShape K s → HasShape K after }
+{}
+
+/// The file of well-formed code refuses, for every 32-bit number as the event: any event where no
+/// run goes on; in a run, a number that is neither that of an input event nor that of a tick, and
+/// then the run is over; and the start where a run has begun and the first values weren't stored
+/// since. Where it refuses, the call returns false and nothing else in the struct changes.
+pub fn files_refuse_what_is_no_event()
+    ensures { (k : Code) (T : Tests) (b : Bounds) (room : ℕ) (bodies : ℕ → Body) (int : Width) →
+        IsCode k → bits int ≤ 32 →
+        Refuses (shape_of k T b room) (file_of k T b room bodies) int }
 {}

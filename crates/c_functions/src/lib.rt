@@ -16,8 +16,9 @@
 //!   `specs/Layout.antt` for the states, `specs/Plans.antt` for which C is written,
 //!   `specs/Notes.antt` for which procedures are noted, `specs/Files.antt` for the functions and
 //!   for when a struct shows the memory of a plan, and `specs/Moments.antt` for how a call of a
-//!   function stands to a run of code; `specs/Starts.antt` has the start, the reaction and the runs
-//!   of a file.
+//!   function stands to a run of code; `specs/Starts.antt` has the functions that are called from
+//!   outside, what they refuse and the runs of a file, `specs/Events.antt` which numbers are events,
+//!   and `specs/Inputs.antt` the declarations whose first values are given.
 //! - `types`: the type of words and that of the field of a datum, which the crates above write and
 //!   print. It is the one code that runs.
 #![tactic(auto)]
@@ -32,8 +33,8 @@ pub use expression_laws::{
     statements_do_what_code_does,
 };
 pub use function_laws::{
-    changes_of_states_change_the_struct, files_run_as_code, functions_end_as_code,
-    states_have_places, tests_of_states_give_which_are_active,
+    changes_of_states_change_the_struct, files_refuse_what_is_no_event, files_run_as_code,
+    functions_end_as_code, states_have_places, tests_of_states_give_which_are_active,
 };
 pub use plan_laws::{
     calls_from_outside_end_as_code, calls_of_well_formed_code_end_as_it,

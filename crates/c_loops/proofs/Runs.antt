@@ -1,12 +1,15 @@
 -- A file with loops runs as the file.
-use Rattle.std.proofs.Common.{ℕ, suc, List, [], ◌∷◌, Option, Some, None}
+use Rattle.std.proofs.Common.{ℕ, suc, Bool, true, List, [], ◌∷◌, Option, Some, None}
 use Rattle.flow_base.specs.declared.fault.Fault.{Fault}
+use Rattle.actions.specs.declared.expr.Value.{Value}
 use Rattle.actions.specs.Runs.{EventWithInputs, Moment, UnlessFaulted}
 use Rattle.c_subset.specs.declared.trees.Width.{Width}
 use Rattle.c_subset.specs.Trees.{File}
 use Rattle.c_subset.specs.Meaning.{CValue, Store}
-use Rattle.c_functions.specs.Plans.{Shape, start_function, react_function}
-use Rattle.c_functions.specs.Starts.{Answers, event_argument, ReactsOn, RunsOn}
+use Rattle.c_functions.specs.Moments.{word_of}
+use Rattle.c_functions.specs.Files.{with_fault}
+use Rattle.c_functions.specs.Plans.{Shape, init_function, start_function, react_function, refused_number}
+use Rattle.c_functions.specs.Starts.{Leaves, Answers, event_argument, first_struct, ReactsOn, RunsOn, Refuses}
 use Rattle.c_loops.specs.Loops.{with_loops}
 use Rattle.c_loops.proofs.Looping.{calls-alike}
 
@@ -17,11 +20,18 @@ unless-on None moments A B f h = f h
 unless-on (Some x) moments A B f h = h
 
 module _ (n : ℕ) (K : Shape) (file : File) (int : Width) where
+  leaves-on : (f : ℕ) (args : List CValue) (s : Store) (answer : Bool) (after : Store)
+      → Leaves file int f args s answer after → Leaves (with_loops n file) int f args s answer after
+  leaves-on f args s answer after h = record {
+    fuel = suc h.fuel;
+    gives = calls-alike n file int h.fuel f args s after _ h.gives;
+  }
+
   answers-on : (f : ℕ) (args : List CValue) (moment : Moment) (s after : Store)
       → Answers K file int f args moment s after → Answers K (with_loops n file) int f args moment s after
   answers-on f args moment s after h = record {
-    fuel = suc h.fuel;
-    gives = calls-alike n file int h.fuel f args s after _ h.gives;
+    leaves = leaves-on f args s _ after h.leaves;
+    shape = h.shape;
     shows = h.shows;
   }
 
@@ -41,8 +51,24 @@ module _ (n : ℕ) (K : Shape) (file : File) (int : Width) where
         reacts-on events h.0 h.5 h.1 h.7,
       )) h
 
-  pub runs-on : (s : Store) (events : List EventWithInputs) (moments : List Moment)
-      → RunsOn K file int s events moments → RunsOn K (with_loops n file) int s events moments
-  runs-on s events [] h = h
-  runs-on s events (m ∷ moments) h =
-      (h.0, answers-on (start_function K) [] m s h.0 h.1, reacts-on events m h.0 moments h.2)
+  pub runs-on : (s : Store) (given : List (Option Value)) (events : List EventWithInputs) (moments : List Moment)
+      → RunsOn K file int s given events moments → RunsOn K (with_loops n file) int s given events moments
+  runs-on s given events [] h = h
+  runs-on s given events (m ∷ moments) h = (
+    leaves-on (init_function K) [] s true (first_struct K s) h.0,
+    h.1,
+    h.2,
+    h.3,
+    answers-on (start_function K) [] m h.1 h.3 h.4,
+    reacts-on events m h.3 moments h.5,
+  )
+
+  pub refuses-on : Refuses K file int → Refuses K (with_loops n file) int
+  refuses-on h = record {
+    not_running = λ s e small ready. leaves-on (react_function K) (word_of e ∷ []) s _ s (h.not_running s e small ready);
+    no_event = λ s moment e small shows none no_input no_tick.
+        leaves-on (react_function K) (word_of e ∷ []) s _ (with_fault K s refused_number 0)
+        (h.no_event s moment e small shows none no_input no_tick);
+    second_start = λ s ready fault hr hf some.
+        leaves-on (start_function K) [] s _ s (h.second_start s ready fault hr hf some);
+  }

@@ -6,7 +6,8 @@ use Rattle.flow_base.specs.declared.fault.Fault.{Fault}
 use Rattle.flow_base.specs.declared.fault.Fault.TheVariants as faults
 use Rattle.active_config.specs.Tree.{Tree, state_count}
 use Rattle.actions.specs.Names.{Names}
-use Rattle.actions.specs.Runs.{EventWithInputs, Moment}
+use Rattle.actions.specs.declared.expr.Value.{Value}
+use Rattle.actions.specs.Runs.{EventWithInputs, Moment, AreInputValues}
 use Rattle.checked_chart.specs.Chart.{Chart}
 use Rattle.checked_chart.specs.Valid.{IsValid}
 use Rattle.sos_rules.specs.Reactions.{RulesRun}
@@ -17,15 +18,16 @@ use Rattle.code_counts.proofs.Room.{start_few, reaction_few}
 use Rattle.code_copies.specs.SameRuns.{HasSameRuns}
 use Rattle.chart_code.specs.Bodies.{code_of_chart}
 use Rattle.chart_code.proofs.ListResults.{results_below}
-use Rattle.chart_code.proofs.Whole.{code_runs}
 use Rattle.c_functions.specs.Writer.{plans_of}
 use Rattle.c_functions.proofs.Writing.{plans_are}
 use Rattle.c_functions.specs.Failing.{AfterIsRight}
 use Rattle.c_functions.specs.Plans.{Tests, all_tests, bad}
 use Rattle.c_functions.specs.Moments.{HasSmallResults, MayEnd, MayEndIn}
 use Rattle.c_functions.specs.Starts.{AllGiven}
-use Rattle.c_functions.proofs.FileRuns.{runs-on}
-use Rattle.c_runs.specs.Claims.{FitsChart, RunsAsRules, Serves}
+use Rattle.c_functions.specs.Inputs.{with_inputs}
+use Rattle.c_functions.proofs.FileRuns.{runs-on, refuses}
+use Rattle.c_runs.specs.Claims.{FitsChart, RunsAsRules, Serves, with_first}
+use Rattle.c_runs.proofs.Given.{code_runs-with}
 use Rattle.c_runs.proofs.EachMoment.{run_ends}
 
 -- the code of a chart has the chart's tree and names
@@ -63,13 +65,17 @@ same-fits c k same = record {
 -- the C of code that fits the chart, with right tests, limits and room that serve it, runs as the rules say
 pub runs-as-rules : (c : Chart) (b : Bounds) (k : Code) (T : Tests) (limits : Bounds) (room : ℕ) → IsValid c
     → FitsChart c k → Serves c b k T limits room → AfterIsRight T k → RunsAsRules c b k T limits room (plans_of k)
-runs-as-rules c b k T limits room valid fits serves right int s events moments most shape all run =
-    runs-on k T limits room (plans_of k) int fits.well_formed
-    (ap (λ (n : Names). length n.states) fits.names ∙ valid.state_names
-    ∙ ap (λ (t : Tree). state_count t) (sym fits.tree))
-    (small-results c k valid fits) right (plans_are k fits.well_formed) most s events moments shape
-    (subst (λ (n : Names). AllGiven n events) (sym fits.names) all) (serves.runs events moments run)
-    (serves.ends events moments all run)
+runs-as-rules c b k T limits room valid fits serves right = record {
+  runs = λ int s given events moments most shape values all run.
+      runs-on k T limits room (plans_of k) int fits.well_formed most
+      (ap (λ (n : Names). length n.states) fits.names ∙ valid.state_names
+      ∙ ap (λ (t : Tree). state_count t) (sym fits.tree))
+      (small-results c k valid fits) right (plans_are k fits.well_formed) s given events moments shape
+      (subst (λ (n : Names). AreInputValues n 0 given) (sym fits.names) values)
+      (subst (λ (n : Names). AllGiven n events) (sym fits.names) all) (serves.runs given events moments values run)
+      (serves.ends given events moments values all run);
+  refuses = λ int most. refuses k T limits room (plans_of k) int fits.well_formed most;
+}
 
 -- where all faults are tested a run may end in any way
 may-end : (x : Option Fault) → MayEnd all_tests x
@@ -85,13 +91,18 @@ pub all-serve : (c : Chart) (b : Bounds) (k : Code) → IsValid c → HasSameRun
     → Serves c b k all_tests b b.steps
 all-serve c b k valid same = record {
   runs = runs;
-  ends = λ events moments all run.
-      run_ends (MayEndIn all_tests b.steps) (Starts k b) (Reacts k b)
-      (λ m starts. record { fault = may-end m.fault; outputs = start_few k b m.world m.fault starts })
-      (λ w e m reacts. record { fault = may-end m.fault; outputs = reaction_few k b w m.world e m.fault reacts })
-      events moments (runs events moments run);
+  ends = λ given events moments values all run.
+      let k' : Code = record k { names = with_inputs given k.names } in
+      run_ends (MayEndIn all_tests b.steps) (Starts k' b) (Reacts k' b)
+      (λ m starts. record { fault = may-end m.fault; outputs = start_few k' b m.world m.fault starts })
+      (λ w e m reacts. record { fault = may-end m.fault; outputs = reaction_few k' b w m.world e m.fault reacts })
+      events moments (runs given events moments values run);
 }
   where
-    runs : (events : List EventWithInputs) (moments : List Moment) → RulesRun c b events moments
-        → CodeRun k b events moments
-    runs events moments run = (same.runs b events moments).0 ((code_runs c valid b events moments).0 run)
+    runs : (given : List (Option Value)) (events : List EventWithInputs) (moments : List Moment)
+        → AreInputValues c.names 0 given → RulesRun (with_first given c) b events moments
+        → CodeRun (record k { names = with_inputs given k.names }) b events moments
+    runs given events moments values run =
+        subst (λ (n : Names). CodeRun (record k { names = with_inputs given n }) b events moments) (sym same.names)
+        ((same.runs b (with_inputs given (code_of_chart c).names) events moments).0
+        ((code_runs-with given c values valid b events moments).0 run))

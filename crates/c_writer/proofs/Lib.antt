@@ -8,3 +8,4 @@ pub mod NextLemmas
 pub mod ProcedureLemmas
 pub mod StoreLemmas
 pub mod CodeLemmas
+pub mod RefusalLemmas

@@ -42,9 +42,9 @@ zeros_more f i n t rest lt =
 -- so many states
 abbrev pub fields_by : List Var → ℕ → ℕ → ℕ → Block → Block
 fields_by vars u o s rest =
-    store_all 0 (map value_of vars) (store_all u (replicate 5 (nothing_of word))
-    (store_all (u + 5) (replicate (o + o) (nothing_of (Unsigned W16)))
-    (store_all (u + 5 + o + o) (replicate ((s + 31) / 32) (nothing_of word)) rest)))
+    store_all 0 (map value_of vars) (store_all u (replicate 6 (nothing_of word))
+    (store_all (u + 6) (replicate (o + o) (nothing_of (Unsigned W16)))
+    (store_all (u + 6 + o + o) (replicate ((s + 31) / 32) (nothing_of word)) rest)))
 
 all_fields : (K : Shape) (rest : Block) → store_all 0 (first_values K) rest
     ≡ fields_by K.names.vars (length K.names.vars) (or_count K.tree) (state_count K.tree) rest
@@ -53,32 +53,32 @@ all_fields K rest =
     let n = length K.names.vars in
     let m = or_count K.tree + or_count K.tree in
     let vars = map value_of K.names.vars in
-    let five = replicate 5 (nothing_of word) in
+    let six = replicate 6 (nothing_of word) in
     let numbers = replicate m (nothing_of (Unsigned W16)) in
     let words = replicate ((state_count K.tree + 31) / 32) (nothing_of word) in
     let vars_length : 0 + length vars ≡ n = omega (arith, length-map K.names.vars value_of) in
-    let five_length : n + length five ≡ n + 5 = omega (arith, length-replicate 5 (nothing_of word)) in
-    let numbers_length : n + 5 + length numbers ≡ n + 5 + or_count K.tree + or_count K.tree =
+    let six_length : n + length six ≡ n + 6 = omega (arith, length-replicate 6 (nothing_of word)) in
+    let numbers_length : n + 6 + length numbers ≡ n + 6 + or_count K.tree + or_count K.tree =
     omega (arith, length-replicate m (nothing_of (Unsigned W16))) in
-    store_all-append 0 vars (five ++ (numbers ++ words)) rest
-    ∙ ap (store_all 0 vars) (ap (λ k. store_all k (five ++ (numbers ++ words)) rest) vars_length
-    ∙ store_all-append n five (numbers ++ words) rest
-    ∙ ap (store_all n five) (ap (λ k. store_all k (numbers ++ words) rest) five_length
-    ∙ store_all-append (n + 5) numbers words rest
-    ∙ ap (λ k. store_all (n + 5) numbers (store_all k words rest)) numbers_length))
+    store_all-append 0 vars (six ++ (numbers ++ words)) rest
+    ∙ ap (store_all 0 vars) (ap (λ k. store_all k (six ++ (numbers ++ words)) rest) vars_length
+    ∙ store_all-append n six (numbers ++ words) rest
+    ∙ ap (store_all n six) (ap (λ k. store_all k (numbers ++ words) rest) six_length
+    ∙ store_all-append (n + 6) numbers words rest
+    ∙ ap (λ k. store_all (n + 6) numbers (store_all k words rest)) numbers_length))
 
 -- what was appended for each kind was appended for all fields
 pub fields_put : (K : Shape) (vars : List Var) (u o s : ℕ) (l0 l1 l2 l3 l4 : List Line) → vars ≡ K.names.vars
     → u ≡ length K.names.vars → o ≡ or_count K.tree → s ≡ state_count K.tree
-    → Appends l0 l1 (store_all 0 (map value_of vars)) → Appends l1 l2 (store_all u (replicate 5 (nothing_of word)))
-    → Appends l2 l3 (store_all (u + 5) (replicate (o + o) (nothing_of (Unsigned W16))))
-    → Appends l3 l4 (store_all (u + 5 + o + o) (replicate ((s + 31) / 32) (nothing_of word)))
+    → Appends l0 l1 (store_all 0 (map value_of vars)) → Appends l1 l2 (store_all u (replicate 6 (nothing_of word)))
+    → Appends l2 l3 (store_all (u + 6) (replicate (o + o) (nothing_of (Unsigned W16))))
+    → Appends l3 l4 (store_all (u + 6 + o + o) (replicate ((s + 31) / 32) (nothing_of word)))
     → Appends l0 l4 (store_all 0 (first_values K))
 fields_put K vars u o s l0 l1 l2 l3 l4 ev eu eo es h1 h2 h3 h4 rest =
     let n = length K.names.vars in
-    let last = store_all (u + 5 + o + o) (replicate ((s + 31) / 32) (nothing_of word)) rest in
-    let third = store_all (u + 5) (replicate (o + o) (nothing_of (Unsigned W16))) last in
-    h4 rest ∙ h3 last ∙ h2 third ∙ h1 (store_all u (replicate 5 (nothing_of word)) third)
+    let last = store_all (u + 6 + o + o) (replicate ((s + 31) / 32) (nothing_of word)) rest in
+    let third = store_all (u + 6) (replicate (o + o) (nothing_of (Unsigned W16))) last in
+    h4 rest ∙ h3 last ∙ h2 third ∙ h1 (store_all u (replicate 6 (nothing_of word)) third)
     ∙ ap (λ b. lines_in l0 ++ lines_of b)
     (ap (λ x. fields_by x u o s rest) ev ∙ ap (λ x. fields_by K.names.vars x o s rest) eu
     ∙ ap (λ x. fields_by K.names.vars n x s rest) eo

@@ -11,7 +11,7 @@ ghost use Rattle.c_writer.specs.Functions.{HasFunction, IsAt, IsShapeOf, later_f
 
 use crate::helpers::{Home, floor_function, home_function, noted_caller};
 use crate::procedures::procedure;
-use crate::starts::{react_function, start_function};
+use crate::starts::{init_function, react_function, start_function};
 use c_expression_writer::FileShape;
 use c_subset::{Function, Width};
 use code_language::{Code, Instr};
@@ -37,7 +37,8 @@ fn start_of(code: &Code) -> u32
 
 /// The procedure of a reaction.
 fn react_of(code: &Code) -> u32
-    ensures { result ≡ (code_of code.now).procedures.react }
+    ensures react { result ≡ (code_of code.now).procedures.react }
+    ensures well_formed { IsCode (code_of code.now) }
 {
     code.raw().react
 }
@@ -58,7 +59,7 @@ fn procedure_at(
 }
 
 /// A function after those of the procedures: one of the home, the one that calls noted procedures,
-/// one that divides, the start or the reaction.
+/// one that divides, that of the first values, the start or the reaction.
 fn later_function(
     alloc: Global,
     shape: &FileShape<'_>,
@@ -66,7 +67,7 @@ fn later_function(
     place: u32,
 ) -> Result<Function, Memory>
     requires shape { IsShapeOf (shape_seen shape.now) (code_of code.now) }
-    requires place { place < 10 }
+    requires place { place < 11 }
     ensures { IfOk result (IsAt (later_functions (shape_seen shape.now)
         (code_of code.now).procedures.start (code_of code.now).procedures.react) place) }
 {
@@ -79,14 +80,15 @@ fn later_function(
         5 => floor_function(alloc, Width::W32),
         6 => floor_function(alloc, Width::W64),
         7 => floor_function(alloc, Width::W128),
-        8 => start_function(alloc, shape, start_of(code)),
+        8 => init_function(alloc, shape),
+        9 => start_function(alloc, shape, start_of(code)),
         _ => react_function(alloc, shape, react_of(code)),
     }
 }
 
 /// The function of the file of code that has a number: first come those of the procedures, then two
-/// that tell of the home, one that calls a noted procedure, five that divide, the start and the
-/// reaction. `Memory` only where memory was refused.
+/// that tell of the home, one that calls a noted procedure, five that divide, that which stores the
+/// first values, the start and the reaction. `Memory` only where memory was refused.
 pub fn function(
     alloc: Global,
     shape: &FileShape<'_>,
@@ -94,7 +96,7 @@ pub fn function(
     number: u32,
 ) -> Result<Function, Memory>
     requires shape { IsShapeOf (shape_seen shape.now) (code_of code.now) }
-    requires number { number < (shape_seen shape.now).procs + 10 }
+    requires number { number < (shape_seen shape.now).procs + 11 }
     ensures { IfOk result (HasFunction (file_of (code_of code.now) (shape_seen shape.now).tests
         (shape_seen shape.now).bounds (shape_seen shape.now).outputs (plans_of (code_of code.now)))
         number) }

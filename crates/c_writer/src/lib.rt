@@ -22,4 +22,4 @@ mod starts;
 pub use functions::function;
 pub use helpers::{Home, floor_function, home_function, noted_caller};
 pub use procedures::procedure;
-pub use starts::{react_function, start_function};
+pub use starts::{init_function, react_function, start_function};

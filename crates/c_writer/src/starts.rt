@@ -1,20 +1,24 @@
-//! The functions of the start and of a reaction.
+//! The functions that are called from outside: that of the first values, the start and a reaction.
 ghost use Rattle.std.specs.Prelude.{◌≡◌, ◌≤◌, ◌<◌, ◌+◌, ◌^◌, ◌++◌, length, map, replicate};
-ghost use Rattle.std.specs.Prelude.{IfOk, OnOk};
+ghost use Rattle.std.specs.Prelude.{IfOk, OnOk, true, false};
 ghost use Rattle.flow_base.specs.Lists.{items_of};
 ghost use Rattle.actions.specs.declared.event.Event.TheVariants as events;
 ghost use Rattle.c_subset.specs.Lines.{Appends, IsFunction, expr_of, lines_in, lines_of};
+ghost use Rattle.c_subset.specs.Trees as c;
 ghost use Rattle.c_functions.specs.Plans as spec;
 ghost use Rattle.c_functions.specs.Starts as starts;
 ghost use Rattle.c_expression_writer.specs.FileShapes.{shape_seen};
-ghost use Rattle.c_writer.specs.Starting.{clear_counts, nothing_of, value_of};
+ghost use Rattle.c_writer.specs.Starting.{nothing_of, refused_where, value_of};
 ghost use Rattle.flow_base.specs.declared.chart_limits.TheConstants.{EVENT_LIMIT, VARIABLE_LIMIT};
 
 use crate::calls::five;
 use crate::helpers::one_word;
 use crate::pieces::{local, put_return, put_store};
 use actions::Var;
-use c_expression_writer::{BAD, FileShape, number, put};
+use c_expression_writer::{
+    BAD, FileShape, NO_EVENT, is_begun, is_unknown, leading, leading_events, number, put,
+    tell_fault,
+};
 use c_functions::{WORD, field_type};
 use c_subset::{CExpr, CType, Comparison, Function, Line, Width};
 use flow_base::{List, Memory};
@@ -57,9 +61,9 @@ fn put_fields(shape: &FileShape<'_>, lines: &mut List<Line>) -> Result<(), Memor
     let states = shape.tree.len();
     let vars = shape.names.vars.items();
     let used = shape.used_field();
-    let after = used + 5;
+    let after = used + 6;
     put_data(lines, vars)?;
-    put_zeros(lines, used, 5, WORD)?;
+    put_zeros(lines, used, 6, WORD)?;
     put_zeros(lines, after, ors + ors, CType::Unsigned(Width::W16))?;
     put_zeros(lines, after + ors + ors, (states + 31) / 32, WORD)
 }
@@ -98,12 +102,80 @@ fn put_clear_used(shape: &FileShape<'_>, lines: &mut List<Line>) -> Result<(), M
 /// Appends that no step is used, nothing is emitted and there are no notes.
 fn put_clear_counts(shape: &FileShape<'_>, lines: &mut List<Line>) -> Result<(), Memory>
     ensures { OnOk result (Appends (items_of lines.old) (items_of lines.new)
-        (clear_counts (shape_seen shape.now))) }
+        (starts.clear_counts_c (shape_seen shape.now))) }
 {
     put_clear_used(shape, lines)?;
     put_store(lines, shape.outs_field(), number(0))?;
     put_store(lines, shape.noted_field(), number(0))
 }
+
+// ---- refusals
+
+/// Appends that this is returned.
+#[tactic(auto, unfolding(c_subset::specs::Lines::lines_of))]
+fn put_answer(lines: &mut List<Line>, answer: bool) -> Result<(), Memory>
+    ensures { OnOk result (lines_in (items_of lines.new) ≡ lines_in (items_of lines.old)
+        ++ lines_of (starts.answer_c answer)) }
+{
+    put_return(lines, CExpr::Const(CType::Truth, i128::from(answer)))
+}
+
+/// Appends that false is returned where a test holds.
+#[tactic(auto, unfolding(c_subset::specs::Lines::lines_of))]
+fn put_refused(lines: &mut List<Line>, test: CExpr) -> Result<(), Memory>
+    ensures { OnOk result (Appends (items_of lines.old) (items_of lines.new)
+        (refused_where (expr_of test))) }
+{
+    put(lines, Line::If(test))?;
+    put_answer(lines, false)?;
+    put(lines, Line::Close)
+}
+
+/// Appends that a number that is no event ends the run.
+#[tactic(auto, unfolding(c_subset::specs::Lines::lines_of))]
+fn put_no_event(alloc: Global, shape: &FileShape<'_>, lines: &mut List<Line>) -> Result<(), Memory>
+    requires { length (shape_seen shape.now).names.events ≤ EVENT_LIMIT }
+    ensures { OnOk result (Appends (items_of lines.old) (items_of lines.new)
+        (c.If (starts.is_unknown_c (shape_seen shape.now)) (spec.tell_fault (shape_seen shape.now)
+        spec.refused_number 0 (starts.answer_c false)) c.End)) }
+{
+    let unknown = is_unknown(alloc, shape)?;
+    put(lines, Line::If(unknown))?;
+    tell_fault(shape, lines, NO_EVENT, 0)?;
+    put_answer(lines, false)?;
+    put(lines, Line::Close)
+}
+
+/// Appends what a reaction refuses of an event that may be none.
+fn put_refusals(alloc: Global, shape: &FileShape<'_>, lines: &mut List<Line>) -> Result<(), Memory>
+    requires { length (shape_seen shape.now).names.events ≤ EVENT_LIMIT }
+    ensures { OnOk result (Appends (items_of lines.old) (items_of lines.new)
+        (starts.refusals_c (shape_seen shape.now))) }
+{
+    let ready = CExpr::Field(shape.ready_field());
+    let over = CExpr::compare(alloc, Comparison::IsEqual, ready, number(0))?;
+    put_refused(lines, over)?;
+    put_no_event(alloc, shape, lines)
+}
+
+/// Appends what a reaction refuses: where events lead, one below `ready` passes by the tests.
+#[tactic(auto, unfolding(c_subset::specs::Lines::lines_of))]
+fn put_refuse(alloc: Global, shape: &FileShape<'_>, lines: &mut List<Line>) -> Result<(), Memory>
+    requires { length (shape_seen shape.now).names.events ≤ EVENT_LIMIT }
+    ensures { OnOk result (Appends (items_of lines.old) (items_of lines.new)
+        (starts.refuse_c (shape_seen shape.now))) }
+{
+    if leading_events(shape.names.events.items()) == 0 {
+        return put_refusals(alloc, shape, lines);
+    }
+    let ready = CExpr::Field(shape.ready_field());
+    let late = CExpr::compare(alloc, Comparison::IsAtLeast, local(0), ready)?;
+    put(lines, Line::If(late))?;
+    put_refusals(alloc, shape, lines)?;
+    put(lines, Line::Close)
+}
+
+// ---- the functions
 
 /// The number of the event of the start.
 fn start_event(shape: &FileShape<'_>) -> u32
@@ -114,6 +186,21 @@ fn start_event(shape: &FileShape<'_>) -> u32
     shape.names.events.items().len() as u32 + 1
 }
 
+/// The function that stores the first values.
+pub fn init_function(alloc: Global, shape: &FileShape<'_>) -> Result<Function, Memory>
+    ensures { IfOk result (λ function.
+        IsFunction function (starts.init_c (shape_seen shape.now))) }
+{
+    let mut lines = List::of(Vec::new(alloc));
+    put_fields(shape, &mut lines)?;
+    put_answer(&mut lines, true)?;
+    Ok(Function {
+        result: CType::Truth,
+        parameters: List::of(Vec::new(alloc)),
+        lines,
+    })
+}
+
 /// The function of the start, where `start` is its procedure.
 pub fn start_function(alloc: Global, shape: &FileShape<'_>, start: u32) -> Result<Function, Memory>
     requires { length (shape_seen shape.now).names.events ≤ EVENT_LIMIT }
@@ -121,7 +208,9 @@ pub fn start_function(alloc: Global, shape: &FileShape<'_>, start: u32) -> Resul
         IsFunction function (starts.start_c (shape_seen shape.now) start)) }
 {
     let mut lines = List::of(Vec::new(alloc));
-    put_fields(shape, &mut lines)?;
+    let begun = is_begun(alloc, shape)?;
+    put_refused(&mut lines, begun)?;
+    put_store(&mut lines, shape.ready_field(), number(leading(shape)))?;
     put_outside(alloc, &mut lines, start, number(start_event(shape)))?;
     Ok(Function {
         result: CType::Truth,
@@ -132,11 +221,13 @@ pub fn start_function(alloc: Global, shape: &FileShape<'_>, start: u32) -> Resul
 
 /// The function of a reaction, where `react` is its procedure.
 pub fn react_function(alloc: Global, shape: &FileShape<'_>, react: u32) -> Result<Function, Memory>
+    requires { length (shape_seen shape.now).names.events ≤ EVENT_LIMIT }
     ensures { IfOk result (λ function.
         IsFunction function (starts.react_c (shape_seen shape.now) react)) }
 {
     let parameters = one_word(alloc)?;
     let mut lines = List::of(Vec::new(alloc));
+    put_refuse(alloc, shape, &mut lines)?;
     put_clear_counts(shape, &mut lines)?;
     put_outside(alloc, &mut lines, react, local(0))?;
     Ok(Function {

@@ -41,9 +41,12 @@ pub fn code_whose_start_marks_the_root_is_rooted()
 {}
 
 /// Well-formed code has its own runs, smaller code has those of its code, and what holds from code
-/// to code twice holds from the first code to the last.
+/// to code twice holds from the first code to the last. As they are declared, both have the same
+/// runs.
 pub fn passes_with_the_same_runs_compose()
     ensures itself { (k : Code) → IsCode k → HasSameRuns k k }
     ensures shrunk { (k k' : Code) → IsShrunk k k' → HasSameRuns k k' }
     ensures both { (k k' k'' : Code) → HasSameRuns k k' → HasSameRuns k' k'' → HasSameRuns k k'' }
+    ensures runs { (k k' : Code) → HasSameRuns k k' → (b : Bounds) (events : List EventWithInputs)
+        (moments : List Moment) → CodeRun k b events moments ↔ CodeRun k' b events moments }
 {}

@@ -3,7 +3,7 @@ use Rattle.std.proofs.Common.{◌≡◌, ℕ, zero, suc, Option, refl, subst}
 use Rattle.flow_base.specs.declared.fault.Fault.{Fault}
 use Rattle.actions.specs.declared.event.Event.TheVariants.{Start}
 use Rattle.actions.specs.Runs.{Moment}
-use Rattle.actions.specs.World.{World, world_before, begun}
+use Rattle.actions.specs.World.{World, begun}
 use Rattle.actions.specs.Work.{from_outside}
 use Rattle.code_language.specs.Code.{Code}
 use Rattle.code_language.specs.Ahead.{next_then, ahead}
@@ -20,7 +20,7 @@ module _ (k : Code) (N : Numbers) (most : ℕ) (is : IsMost k.procedures N most)
   -- depth and notes, which are levels
   by_level : (c : Counted) → IsLevel c → IsCertificate c k.procedures N → HasMost c k most
   by_level c s ok = record {
-    start = λ b n. level_stays (program_of k b) c N most s ok n (world_before k.tree k.names) (from_outside Start)
+    start = λ b n w. level_stays (program_of k b) c N most s ok n (begun w) (from_outside Start)
         k.procedures.start refl is.start;
     reaction = λ b n w e. level_stays (program_of k b) c N most s ok n (begun w) (from_outside e)
         k.procedures.react refl is.reaction;
@@ -29,14 +29,14 @@ module _ (k : Code) (N : Numbers) (most : ℕ) (is : IsMost k.procedures N most)
   -- whatever is counted
   pub bounded : (c : Counted) → IsCertificate c k.procedures N → HasMost c k most
   bounded Steps ok = record {
-    start = λ b n. sum_within (program_of k b) Steps N most steps_sum ok n (world_before k.tree k.names)
-        (from_outside Start) k.procedures.start refl is.start;
+    start = λ b n w. sum_within (program_of k b) Steps N most steps_sum ok n (begun w) (from_outside Start)
+        k.procedures.start refl is.start;
     reaction = λ b n w e. sum_within (program_of k b) Steps N most steps_sum ok n (begun w) (from_outside e)
         k.procedures.react refl is.reaction;
   }
   bounded Outputs ok = record {
-    start = λ b n. sum_within (program_of k b) Outputs N most outputs_sum ok n (world_before k.tree k.names)
-        (from_outside Start) k.procedures.start refl is.start;
+    start = λ b n w. sum_within (program_of k b) Outputs N most outputs_sum ok n (begun w) (from_outside Start)
+        k.procedures.start refl is.start;
     reaction = λ b n w e. sum_within (program_of k b) Outputs N most outputs_sum ok n (begun w) (from_outside e)
         k.procedures.react refl is.reaction;
   }

@@ -8,7 +8,7 @@ use Rattle.flow_base.specs.declared.fault.Fault.{Fault}
 use Rattle.active_config.specs.Marks.{is_on, is_bare}
 use Rattle.actions.specs.declared.event.Event.{Event}
 use Rattle.actions.specs.Changes.{paid_in, assigned_in}
-use Rattle.actions.specs.World.{World, emitted}
+use Rattle.actions.specs.World.{World, world_before, emitted}
 use Rattle.actions.specs.Work.{Now}
 use Rattle.code_language.specs.Ahead.{next_then, ahead}
 use Rattle.code_language.proofs.Used.{Leaving, Pays, paid_used}
@@ -188,7 +188,7 @@ pub steps_are_room : (k : Code) (b : Bounds) → 1 ≤ b.steps → IsRoom k b b.
 steps_are_room k b some = record {
   some = some;
   few = omega arith;
-  start = start_few k b;
+  start = λ names. start_few (record k { names = names }) b;
   reaction = reaction_few k b;
 }
 
@@ -198,9 +198,9 @@ pub most_is_room : (k : Code) (b : Bounds) (most room : ℕ) → HasMost Outputs
 most_is_room k b most room has le some few = record {
   some = some;
   few = few;
-  start = λ w x starts.
-      let h = end_within Outputs (program_of k b) most (start_machine k) (record { world = w; fault = x }) starts
-      (has.start b) in
+  start = λ names w x starts.
+      let h = end_within Outputs (program_of k b) most (start_machine (record k { names = names }))
+      (record { world = w; fault = x }) starts (λ n. has.start b n (world_before k.tree names)) in
       omega (arith, h.0, le);
   reaction = λ w w' e x reacts.
       let h = end_within Outputs (program_of k b) most (react_machine k w e) (record { world = w'; fault = x }) reacts

@@ -6,8 +6,9 @@ use Rattle.flow_base.specs.declared.bounds.Bounds.{Bounds}
 use Rattle.flow_base.specs.declared.fault.Fault.{Fault}
 use Rattle.flow_base.specs.declared.fault.Fault.TheVariants as faults
 use Rattle.actions.specs.declared.event.Event.{Event}
+use Rattle.actions.specs.Names.{Names}
 use Rattle.actions.specs.Runs.{Moment, EventWithInputs}
-use Rattle.actions.specs.World.{World}
+use Rattle.actions.specs.World.{World, world_before}
 use Rattle.actions.proofs.RunLemmas.{Runs-along}
 use Rattle.code_language.specs.Ahead.{ahead}
 use Rattle.code_language.specs.Code.{Code}
@@ -26,9 +27,9 @@ abbrev BeginsEvent : Code → CodeState → Type 0
 BeginsEvent k m = (c : Counted) (most : ℕ) → HasMost c k most → (b : Bounds) (n : ℕ)
     → IsWithin c b most (ahead (program_of k b) n m)
 
--- a start begins so
-start_begins : (k : Code) → BeginsEvent k (start_machine k)
-start_begins k c most has b n = has.start b n
+-- a start begins so, whatever the code declares
+start_begins : (k : Code) (names : Names) → BeginsEvent k (start_machine (record k { names = names }))
+start_begins k names c most has b n = has.start b n (world_before k.tree names)
 
 -- and a reaction
 reaction_begins : (k : Code) (w : World) (e : Event) → BeginsEvent k (react_machine k w e)
@@ -63,12 +64,14 @@ module _ (k : Code) (b b' : Bounds) (m : CodeState) (begins : BeginsEvent k m) w
       leads_same b b' k m (record { world = w; fault = x })
       (λ j. (paid_alike steps j, sent_alike depth j)) h
 
--- a run under the first bounds is one under the second ones
-run_goes : (k : Code) (b b' : Bounds) → AreSameFor Steps k b.steps b'.steps → AreSameFor Depth k b.depth b'.depth
-    → (events : List EventWithInputs) (moments : List Moment) → CodeRun k b events moments → CodeRun k b' events moments
-run_goes k b b' steps depth events moments h =
-    Runs-along (λ w. Unit {0}) (Starts k b) (Starts k b') (Reacts k b) (Reacts k b')
-    (λ w x starts. (event_same k b b' (start_machine k) (start_begins k) steps depth w x starts, tt))
+-- a run under the first bounds is one under the second ones, whatever the code declares
+run_goes : (k : Code) (names : Names) (b b' : Bounds) → AreSameFor Steps k b.steps b'.steps
+    → AreSameFor Depth k b.depth b'.depth → (events : List EventWithInputs) (moments : List Moment)
+    → CodeRun (record k { names = names }) b events moments → CodeRun (record k { names = names }) b' events moments
+run_goes k names b b' steps depth events moments h =
+    let now : Code = record k { names = names } in
+    Runs-along (λ w. Unit {0}) (Starts now b) (Starts now b') (Reacts now b) (Reacts now b')
+    (λ w x starts. (event_same k b b' (start_machine now) (start_begins k names) steps depth w x starts, tt))
     (λ given w w' x here reacts. (
       (
         reacts.0,
@@ -85,12 +88,13 @@ same_back c k bound bound' (inl e) = inl (sym e)
 same_back c k bound bound' (inr h) = inr (h.0, h.1, h.3, h.2)
 
 -- runs are the same under both
-pub same_runs : (k : Code) (b b' : Bounds) → AreSameFor Steps k b.steps b'.steps
+pub same_runs : (k : Code) (names : Names) (b b' : Bounds) → AreSameFor Steps k b.steps b'.steps
     → AreSameFor Depth k b.depth b'.depth → (events : List EventWithInputs) (moments : List Moment)
-    → CodeRun k b events moments ↔ CodeRun k b' events moments
-same_runs k b b' steps depth events moments = (
-  run_goes k b b' steps depth events moments,
-  run_goes k b' b (same_back Steps k b.steps b'.steps steps) (same_back Depth k b.depth b'.depth depth) events moments,
+    → CodeRun (record k { names = names }) b events moments ↔ CodeRun (record k { names = names }) b' events moments
+same_runs k names b b' steps depth events moments = (
+  run_goes k names b b' steps depth events moments,
+  run_goes k names b' b (same_back Steps k b.steps b'.steps steps) (same_back Depth k b.depth b'.depth depth) events
+      moments,
 )
 
 -- ---- bounds that were found
@@ -134,9 +138,11 @@ module _ (k : Code) (b : Bounds) (found : Limits)
   -- bounds that serve in place of the given ones
   pub is_limit : IsLimit k b found
   is_limit = record {
-    runs = same_runs k b found.bounds (serving_same Steps k b.steps found.bounds.steps found.tests_steps steps)
+    runs = λ names.
+        same_runs k names b found.bounds (serving_same Steps k b.steps found.bounds.steps found.tests_steps steps)
         (serving_same Depth k b.depth found.bounds.depth found.tests_depth depth);
-    start = λ w x starts. event_ends (start_machine k) (start_begins k) w x starts;
+    start = λ names w x starts.
+        event_ends (start_machine (record k { names = names })) (start_begins k names) w x starts;
     reaction = λ w w' e x reacts. event_ends (react_machine k w e) (reaction_begins k w e) w' x reacts;
     steps = steps;
     depth = depth;

@@ -4,11 +4,13 @@ use Rattle.flow_base.specs.declared.bounds.Bounds.{Bounds}
 use Rattle.flow_base.specs.declared.fault.Fault.{Fault}
 use Rattle.flow_base.specs.declared.fault.Fault.TheVariants as faults
 use Rattle.actions.specs.declared.event.Event.{Event}
-use Rattle.actions.specs.World.{World}
+use Rattle.actions.specs.declared.event.Event.TheVariants.{Start}
+use Rattle.actions.specs.Work.{from_outside}
+use Rattle.actions.specs.World.{World, begun}
 use Rattle.code_language.specs.Ahead.{ahead}
 use Rattle.code_language.specs.Code.{Code}
 use Rattle.code_language.specs.Machine.{Frame, CodeState, Next, Goes, Stops}
-use Rattle.code_language.specs.Reactions.{program_of, start_machine, react_machine}
+use Rattle.code_language.specs.Reactions.{program_of, first_frame, react_machine}
 use Rattle.code_counts.specs.declared.numbers.Counted.{Counted}
 use Rattle.code_counts.specs.declared.numbers.Counted.TheVariants.{Steps, Outputs, Depth, Notes}
 use Rattle.code_counts.specs.declared.numbers.Counts.{Counts}
@@ -59,7 +61,8 @@ IsWithin c b most (Stops w fault) = (end_amount c w ≤ most) × MayFault c b mo
 
 -- at no time of a start or of a reaction, from whatever world and under whatever bounds, there is more than so much
 pub record HasMost (c : Counted) (k : Code) (most : ℕ) : Type 0 where
-  pub start : (b : Bounds) (n : ℕ) → IsWithin c b most (ahead (program_of k b) n (start_machine k))
+  pub start : (b : Bounds) (n : ℕ) (w : World)
+      → IsWithin c b most (ahead (program_of k b) n (first_frame k.procedures.start (begun w) (from_outside Start)))
   pub reaction : (b : Bounds) (n : ℕ) (w : World) (e : Event)
       → IsWithin c b most (ahead (program_of k b) n (react_machine k w e))
 

@@ -5,6 +5,7 @@ use Rattle.flow_base.specs.declared.bounds.Bounds.{Bounds}
 use Rattle.flow_base.specs.declared.fault.Fault.{Fault}
 use Rattle.flow_base.specs.declared.fault.Fault.TheVariants as faults
 use Rattle.actions.specs.declared.event.Event.{Event}
+use Rattle.actions.specs.Names.{Names}
 use Rattle.actions.specs.Runs.{Moment, EventWithInputs}
 use Rattle.actions.specs.World.{World}
 use Rattle.code_language.specs.Code.{Code}
@@ -35,21 +36,23 @@ MayEnd steps depth (Some faults.Steps) = IsTrue steps
 MayEnd steps depth (Some (faults.Overflow v)) = Unit {0}
 MayEnd steps depth (Some faults.Zero) = Unit {0}
 
--- an array with so many entries has room for what a start or a reaction emits under these bounds, from whatever
--- world
+-- an array with so many entries has room for what a start, whatever the first values of the data are, or a reaction,
+-- from whatever world, emits under these bounds
 pub record IsRoom (k : Code) (b : Bounds) (room : ℕ) : Type 0 where
   pub some : 1 ≤ room
   pub few : room ≤ b.steps
-  pub start : (w : World) (x : Option Fault) → Starts k b w x → length w.outputs ≤ room
+  pub start : (names : Names) (w : World) (x : Option Fault) → Starts (record k { names = names }) b w x
+      → length w.outputs ≤ room
   pub reaction : (w w' : World) (e : Event) (x : Option Fault) → Reacts k b w e w' x → length w'.outputs ≤ room
 
--- the bounds that were found serve the code in place of the given ones: the runs are the same, and a start and a
--- reaction, from whatever world, end by the fault of a bound only where it is tested, and emit no more events than
--- there is room for
+-- the bounds that were found serve the code in place of the given ones, whatever it declares, and so whatever the first
+-- values of its data are: the runs are the same, and a start and a reaction, from whatever world, end by the fault of a
+-- bound only where it is tested, and emit no more events than there is room for
 pub record IsLimit (k : Code) (b : Bounds) (found : Limits) : Type 0 where
-  pub runs : (events : List EventWithInputs) (moments : List Moment)
-      → CodeRun k b events moments ↔ CodeRun k found.bounds events moments
-  pub start : (w : World) (x : Option Fault) → Starts k found.bounds w x
+  pub runs : (names : Names) (events : List EventWithInputs) (moments : List Moment)
+      → CodeRun (record k { names = names }) b events moments
+      ↔ CodeRun (record k { names = names }) found.bounds events moments
+  pub start : (names : Names) (w : World) (x : Option Fault) → Starts (record k { names = names }) found.bounds w x
       → MayEnd found.tests_steps found.tests_depth x
   pub reaction : (w w' : World) (e : Event) (x : Option Fault) → Reacts k found.bounds w e w' x
       → MayEnd found.tests_steps found.tests_depth x

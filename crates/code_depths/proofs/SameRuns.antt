@@ -1,7 +1,7 @@
 -- Code whose sends lead elsewhere where no depth is left for them has the same runs.
 use Rattle.std.proofs.Common.{◌≡◌, ℕ, zero, suc, ◌≤◌, ◌<◌, Bool, true, false, List, [], ◌∷◌, Option, Some, None}
 use Rattle.std.proofs.Common.{refl, sym, ap, ◌∙◌, subst, arith, option_map, unwrap_or}
-use Rattle.std.specs.Prelude.{nat_le, if◌then◌else◌}
+use Rattle.std.specs.Prelude.{◌↔◌, nat_le, if◌then◌else◌}
 use Rattle.std.proofs.lemmas.Bool.Decides.{nat_tests}
 use Rattle.flow_base.specs.declared.bounds.Bounds.{Bounds}
 use Rattle.active_config.specs.Marks.{is_on}
@@ -18,6 +18,8 @@ use Rattle.code_language.specs.Machine.{sent, Next, Goes, Stops, if_ok, if_deep}
 use Rattle.code_language.specs.Machine.{play_next, act, act_on, step, and_then, run}
 use Rattle.code_language.specs.Reactions.{Leads, program_of, start_machine, react_machine, Starts, Reacts, CodeRun}
 use Rattle.code_language.specs.WellFormed.{IsCode}
+use Rattle.code_shrink.specs.RunsAlike.{with_names}
+use Rattle.code_shrink.proofs.RunsAlike.{alike_itself, alike_runs}
 use Rattle.code_depths.specs.Depths.{level_of, AreLevels, instead, led, cut_code, IsCut, AsItWas, ByLevels}
 use Rattle.code_depths.specs.Depths.{HasSameRunsUnder}
 use Rattle.code_depths.proofs.Cuts.{fetch_cut}
@@ -155,14 +157,18 @@ module _ (k : Code) (b : Bounds) (levels : List ℕ) (q : ℕ) (ok : AreLevels l
         tt,
       )) events moments h
 
-  -- the runs of both are the same
-  by_levels : IsCode cut → HasSameRunsUnder b k cut
-  by_levels well = record {
-    well_formed = well;
-    tree = refl;
-    names = refl;
-    runs = λ events moments. (cut_run events moments, code_run events moments);
-  }
+-- both run alike
+by_levels : (k : Code) (b : Bounds) (levels : List ℕ) (q : ℕ) → AreLevels levels k.procedures
+    → IsCode (cut_code b.depth levels q k) → HasSameRunsUnder b k (cut_code b.depth levels q k)
+by_levels k b levels q ok well = record {
+  well_formed = well;
+  tree = refl;
+  names = refl;
+  runs = λ names events moments. (
+    cut_run (with_names names k) b levels q ok events moments,
+    code_run (with_names names k) b levels q ok events moments,
+  );
+}
 
 -- code has its own runs
 as_it_was : (k : Code) (b : Bounds) → IsCode k → HasSameRunsUnder b k k
@@ -170,7 +176,7 @@ as_it_was k b well = record {
   well_formed = well;
   tree = refl;
   names = refl;
-  runs = λ events moments. (λ run. run, λ run. run);
+  runs = alike_itself b k;
 }
 
 -- the runs of code that was cut are those of the code
@@ -179,3 +185,8 @@ cut_same_runs k k' b well (AsItWas is) =
     subst (λ c. IsCode c → HasSameRunsUnder b k c) (sym is) (as_it_was k b) well
 cut_same_runs k k' b well (ByLevels levels q ok is) =
     subst (λ c. IsCode c → HasSameRunsUnder b k c) (sym is) (by_levels k b levels q ok) well
+
+-- as they are declared, both have the same runs
+pub runs_under : (k k' : Code) (b : Bounds) → HasSameRunsUnder b k k' → (events : List EventWithInputs)
+    (moments : List Moment) → CodeRun k b events moments ↔ CodeRun k' b events moments
+runs_under k k' b h events moments = alike_runs b k k' h.names h.runs events moments

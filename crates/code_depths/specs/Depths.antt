@@ -1,13 +1,12 @@
 -- Levels of procedures, and code in which sends that find no depth left lead elsewhere.
-use Rattle.std.specs.Prelude.{◌≡◌, ◌≤◌, ◌↔◌, ℕ, suc, nat_le, List, [], ◌∷◌, map, Option, Some, None, unwrap_or}
+use Rattle.std.specs.Prelude.{◌≡◌, ◌≤◌, ℕ, suc, nat_le, List, [], ◌∷◌, map, Option, Some, None, unwrap_or}
 use Rattle.std.specs.Prelude.{slice_index_or, if◌then◌else◌}
 use Rattle.flow_base.specs.declared.bounds.Bounds.{Bounds}
-use Rattle.actions.specs.Runs.{Moment, EventWithInputs}
 use Rattle.code_language.specs.Code.{Code, Procedures, fetch}
 use Rattle.code_language.specs.Instrs.{Instr, Assign, Emit, Mark, Clear, Keep, Unless, Skip, Call, Visit, Send, SendTo}
 use Rattle.code_language.specs.Instrs.{Play, Home, Begin, Pass, Ret}
-use Rattle.code_language.specs.Reactions.{CodeRun}
 use Rattle.code_language.specs.WellFormed.{IsCode}
+use Rattle.code_shrink.specs.RunsAlike.{RunAlike}
 
 -- ---- levels
 
@@ -94,10 +93,9 @@ pub data IsCut (depth : ℕ) (k k' : Code) : Type 0 where
       → IsCut depth k k'
 
 -- The second code is well formed, declares what the first one does, and has its runs and no others under these bounds,
--- for all lists of events.
+-- for all first values of the data and all lists of events.
 pub record HasSameRunsUnder (b : Bounds) (k k' : Code) : Type 0 where
   pub well_formed : IsCode k'
   pub tree : k'.tree ≡ k.tree
   pub names : k'.names ≡ k.names
-  pub runs : (events : List EventWithInputs) (moments : List Moment)
-      → CodeRun k b events moments ↔ CodeRun k' b events moments
+  pub runs : RunAlike b k k'

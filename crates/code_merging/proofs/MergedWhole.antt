@@ -22,7 +22,7 @@ use Rattle.code_language.proofs.Reckoned.{IsMeasure, reckon_is, reckon_bounded}
 use Rattle.code_language.proofs.Sound.{code_parts, proc_at, proc_there, calls_at}
 use Rattle.code_shrink.specs.Follows.{renamed, Follows, HasCopy}
 use Rattle.code_shrink.specs.Shrunk.{KeepsResults}
-use Rattle.code_shrink.proofs.Endings.{run_copy, run_back}
+use Rattle.code_shrink.proofs.Endings.{copy_alike}
 use Rattle.code_copies.specs.SameRuns.{HasSameRuns}
 use Rattle.code_copies.proofs.MadeWhole.{too_long, all_within, neither, neither_holds, none_at, none_long, procs_by}
 use Rattle.code_shrink.specs.Numbers.{number_by}
@@ -292,10 +292,7 @@ module _ (m : ℕ → ℕ) (k : Code) (well : IsCode k) (equal : AreEqual m k.pr
     well_formed = merged_is_code;
     tree = refl;
     names = refl;
-    runs = λ b events moments. (
-      λ r. run_copy k merged (is_there (known_of k)) m merged_copy b events moments r,
-      λ r. run_back k merged (is_there (known_of k)) m merged_copy b events moments r,
-    );
+    runs = copy_alike k merged (is_there (known_of k)) m merged_copy;
     results = merged_results;
   }
 

@@ -12,7 +12,7 @@ use Rattle.code_language.proofs.Sound.{code_parts, proc_at, proc_there}
 use Rattle.code_shrink.specs.Follows.{renamed, Follows, HasCopy}
 use Rattle.code_shrink.specs.Numbers.{number_by}
 use Rattle.code_shrink.specs.Shrunk.{IsThere, KeepsResults}
-use Rattle.code_shrink.proofs.Endings.{run_copy, run_back}
+use Rattle.code_shrink.proofs.Endings.{copy_alike}
 use Rattle.code_copies.specs.SameRuns.{HasSameRuns}
 use Rattle.code_merging.specs.Merged.{under}
 use Rattle.code_merging.proofs.MergedFollows.{is_there, merged_follows}
@@ -102,10 +102,8 @@ module _ (k k' : Code) (origins : List ℕ) (well : IsCode k') (pure : ArePureCo
     well_formed = well;
     tree = pure.tree;
     names = pure.names;
-    runs = λ b events moments. (
-      λ r. run_back k' k (is_there (known_of k')) origin has_copy b events moments r,
-      λ r. run_copy k' k (is_there (known_of k')) origin has_copy b events moments r,
-    );
+    runs = λ b names events moments.
+        let same = copy_alike k' k (is_there (known_of k')) origin has_copy b names events moments in (same.1, same.0);
     results = pure_results;
   }
 

@@ -1,5 +1,5 @@
 -- Code and its copy have the same runs.
-use Rattle.std.proofs.Common.{◌≡◌, ℕ, Bool, List, [], ◌∷◌, Option, Some, None, sym, ap, ◌∙◌, subst}
+use Rattle.std.proofs.Common.{◌≡◌, ℕ, Bool, List, [], ◌∷◌, Option, Some, None, refl, sym, ap, ◌∙◌, subst}
 use Rattle.flow_base.specs.declared.bounds.Bounds.{Bounds}
 use Rattle.flow_base.specs.declared.fault.Fault.{Fault}
 use Rattle.actions.specs.declared.event.Event.{Event}
@@ -11,6 +11,7 @@ use Rattle.actions.specs.Work.{from_outside}
 use Rattle.code_language.specs.Code.{Code, Procedures}
 use Rattle.code_language.specs.Reactions.{Leads, first_frame, program_of, Starts, Reacts, CodeRun}
 use Rattle.code_shrink.specs.Follows.{AreCopied, HasCopy}
+use Rattle.code_shrink.specs.RunsAlike.{with_names, RunAlike}
 use Rattle.code_shrink.proofs.Lockstep.{copy_leads, code_leads}
 
 -- after a moment without a fault
@@ -112,3 +113,12 @@ run_back k k' R n h b events moments run =
     (Starts (with_procedures k k'.procedures) b) (Starts k b)
     (start_back R n k k'.procedures h.procedures b) events moments
     (subst (λ c. CodeRun c b events moments) (sym (same_code k k' h.tree h.names)) run)
+
+-- so both run alike
+pub copy_alike : (k k' : Code) (R : ℕ → Bool) (n : ℕ → ℕ) → HasCopy R n k k' → (b : Bounds) → RunAlike b k k'
+copy_alike k k' R n h b names events moments =
+    let copy : HasCopy R n (with_names names k) (with_names names k') =
+    record { tree = h.tree; names = refl; procedures = h.procedures } in (
+      run_copy (with_names names k) (with_names names k') R n copy b events moments,
+      run_back (with_names names k) (with_names names k') R n copy b events moments,
+    )

@@ -2,6 +2,7 @@ pub mod Closed
 pub mod Pairs
 pub mod Jumping
 pub mod Lockstep
+pub mod RunsAlike
 pub mod Endings
 pub mod InstrKinds
 pub mod Squeezed

@@ -22,7 +22,7 @@ use Rattle.code_shrink.specs.Whole.{smaller_procedures, AreSmaller}
 use Rattle.code_shrink.specs.Ways.{way_of}
 use Rattle.code_shrink.specs.declared.places.Way.{Way}
 use Rattle.code_shrink.proofs.Collected.{smaller_has_copy}
-use Rattle.code_shrink.proofs.Endings.{run_copy, run_back}
+use Rattle.code_shrink.proofs.Endings.{copy_alike}
 use Rattle.code_shrink.proofs.InOrder.{smaller_in_order}
 use Rattle.code_shrink.proofs.ResultLemmas.{results_stay}
 use Rattle.code_shrink.proofs.NeatCode.{smaller_code_is_neat}
@@ -195,10 +195,7 @@ is_shrunk k live flags well exact =
       tree = refl;
       names = refl;
       neat = smaller_code_is_neat live flags k.procedures exact;
-      runs = λ b events moments. (
-        run_copy k (smaller_code live flags k) (is_live live) (number_in live) copy b events moments,
-        run_back k (smaller_code live flags k) (is_live live) (number_in live) copy b events moments,
-      );
+      runs = copy_alike k (smaller_code live flags k) (is_live live) (number_in live) copy;
       height = heights_less (known_of k) live flags k.procedures.procs (code_parts k well).procs kept.each;
       work = works_less (known_of k) live flags k.procedures.procs (code_parts k well).procs kept.each;
       order = smaller_in_order live flags k.procedures exact;

@@ -2,6 +2,7 @@ pub mod Follows
 pub mod Neat
 pub mod Smaller
 pub mod Whole
+pub mod RunsAlike
 pub mod Shrunk
 pub mod Ways
 pub mod Kept

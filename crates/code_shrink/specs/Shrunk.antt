@@ -1,13 +1,12 @@
 -- When code is a smaller one of the same meaning.
-use Rattle.std.specs.Prelude.{◌≡◌, ◌≤◌, ◌↔◌, ℕ, List, Some}
+use Rattle.std.specs.Prelude.{◌≡◌, ◌≤◌, ℕ, Some}
 use Rattle.flow_base.specs.declared.bounds.Bounds.{Bounds}
-use Rattle.actions.specs.Runs.{Moment, EventWithInputs}
 use Rattle.code_language.specs.Code.{Code, Procedures, fetch}
 use Rattle.code_language.specs.Instrs.{Instr, Unless, Result, Ret}
 use Rattle.code_language.specs.Measures.{greatest, heights, works}
-use Rattle.code_language.specs.Reactions.{CodeRun}
 use Rattle.code_language.specs.WellFormed.{IsCode}
 use Rattle.code_shrink.specs.Neat.{IsNeat}
+use Rattle.code_shrink.specs.RunsAlike.{RunAlike}
 use Rattle.code_shrink.specs.Whole.{ComesInOrder}
 
 -- the instruction stands at some place of some procedure
@@ -22,16 +21,15 @@ pub record KeepsResults (k k' : Procedures) : Type 0 where
   pub returned : (p i r : ℕ) → fetch k' p i ≡ Some (Ret r) → IsThere k (Ret r)
   pub tested : (p i j r : ℕ) → fetch k' p i ≡ Some (Unless j (Result r)) → (n : ℕ) × IsThere k (Unless n (Result r))
 
--- The second code is well formed and neat, declares what the first one does and has its runs, for all bounds and all
--- lists of events. It is no higher and works no more, and its procedures come in order from reached ones that aren't
--- shorter. Its results are results of the first one. Neat code is as it was.
+-- The second code is well formed and neat, declares what the first one does and has its runs, for all bounds, all first
+-- values of the data and all lists of events. It is no higher and works no more, and its procedures come in order from
+-- reached ones that aren't shorter. Its results are results of the first one. Neat code is as it was.
 pub record IsShrunk (k k' : Code) : Type 0 where
   pub well_formed : IsCode k'
   pub tree : k'.tree ≡ k.tree
   pub names : k'.names ≡ k.names
   pub neat : IsNeat k'.procedures
-  pub runs : (b : Bounds) (events : List EventWithInputs) (moments : List Moment)
-      → CodeRun k b events moments ↔ CodeRun k' b events moments
+  pub runs : (b : Bounds) → RunAlike b k k'
   pub height : greatest (heights k'.procedures.procs) ≤ greatest (heights k.procedures.procs)
   pub work : greatest (works k'.procedures.procs) ≤ greatest (works k.procedures.procs)
   pub order : ComesInOrder k.procedures k'.procedures

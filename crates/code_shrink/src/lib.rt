@@ -20,7 +20,9 @@ mod smaller;
 mod tables;
 mod ways;
 
-pub use laws::{copies_run_as_their_code, what_is_reached_is_shrunk_code};
+pub use laws::{
+    copies_run_as_their_code, shrunk_code_runs_as_its_code, what_is_reached_is_shrunk_code,
+};
 pub use numbers::number_at;
 pub use renamed::{copy_cond, renamed_instr};
 pub use shrinking::{Shrunk, shrink, shrink_with_origins};

@@ -12,6 +12,7 @@ use Rattle.sos_rules.specs.Reactions as rules
 use Rattle.code_language.specs.Code.{Code}
 use Rattle.code_language.specs.Reactions as code
 use Rattle.code_shrink.specs.Shrunk.{IsShrunk}
+use Rattle.code_shrink.proofs.RunsAlike.{alike_runs}
 use Rattle.chart_compile.specs.Compiled.{RunsAs}
 use Rattle.chart_code.specs.Bodies.{code_of_chart}
 use Rattle.chart_code.proofs.Whole.{code_runs}
@@ -178,7 +179,7 @@ module _ (c : Chart) (k : Code) (valid : IsValid c) (shrunk : IsShrunk (code_of_
   pub shrunk_runs : RunsAs c k
   shrunk_runs b events moments =
       let chart = code_runs c valid b events moments in
-      let smaller = shrunk.runs b events moments in (
+      let smaller = alike_runs b (code_of_chart c) k shrunk.names (shrunk.runs b) events moments in (
         λ h. smaller.0 (chart.0 h),
         λ h. chart.1 (smaller.1 h),
       )

@@ -2,7 +2,7 @@ use Rattle.checked_chart.specs.Kept.{chart_of}
 use Rattle.code_language.specs.Code.{code_of}
 use Rattle.c_expression_writer.specs.FileShapes.{tests_seen}
 use Rattle.c_file.specs.Files.{IsWritten}
-use Rattle.c_file.proofs.CodeLemmas.{written_fits, written_runs, written_tags}
+use Rattle.c_file.proofs.CodeLemmas.{written_fits, written_alike, written_tags}
 use Rattle.c_file.proofs.ServeLemmas.{limits_serve}
 use Rattle.c_file.proofs.SizeLemmas.{has_sizes}
 use Rattle.c_file.proofs.written.written_code.Goals as goal
@@ -23,7 +23,8 @@ returns c =
       tags = written_tags is;
       serves =
           limits_serve (chart_of c.args.chart.now) c.args.bounds (code_of c.in_ok-code.code) _ c.in_ok-found.found
-          c.shape.ensures.valid (written_runs is c.in_ok-code.ensures.well_formed) c.in_ok-found.ensures
+          c.shape.ensures.valid (written_fits is c.in_ok-code.ensures.well_formed).names
+          (written_alike is c.in_ok-code.ensures.well_formed) c.in_ok-found.ensures
           c.in_ok-tests.ensures.steps c.in_ok-tests.ensures.depth;
       sizes =
           has_sizes (code_of c.in_ok-code.code) (tests_seen c.in_ok-tests.tests) c.in_ok-found.found.bounds

@@ -36,5 +36,5 @@ returns c =
     IfOk-weaker c.procedure.result _ _
     (λ f h. subst (λ xs. IsFunction f (procedure_c K (plan_of k.tree K.numbers k.procedures.react xs)))
     c.instrs_at.ensures.instrs
-    (subst (λ r. IsFunction f (procedure_c K (plan_of k.tree K.numbers r instrs))) c.react_of.ensures
+    (subst (λ r. IsFunction f (procedure_c K (plan_of k.tree K.numbers r instrs))) c.react_of.ensures.react
     (subst (λ t. IsFunction f (procedure_c K (plan_of t K.numbers c.react_of.result instrs))) tree h))) c.procedure.ensures

@@ -1,0 +1,43 @@
+-- The lines of refusals.
+use Rattle.std.proofs.Common.{◌≡◌, ◌≢◌, ◌++◌, ℕ, nat_eq, Bool, true, false, cond, refl, arith, List, [], ◌∷◌, sym, ap, ◌∙◌, append_assoc, append-nil}
+use Rattle.std.proofs.lemmas.Bool.Decides.{nat_tests}
+use Rattle.c_subset.specs.Trees.{CExpr, Field, Compare, Block}
+use Rattle.c_subset.specs.Trees as c
+use Rattle.c_subset.specs.declared.trees.Comparison.TheVariants.{IsAtLeast}
+use Rattle.c_subset.specs.declared.trees.Line as declared_line
+use Rattle.c_subset.specs.Lines.{Line, If, Close, Appends, lines_in, lines_of}
+use Rattle.c_functions.specs.Events.{leading_events}
+use Rattle.c_functions.specs.Plans.{Shape, event_local, ready_field}
+use Rattle.c_functions.specs.Starts.{refusals_c, refuse_c}
+
+-- an `if` whose part is made of statements before others, and of these
+pub part_lines : (old l1 l2 l3 new : List declared_line.Line) (e : CExpr) (part : Block → Block) (last : Block)
+    → lines_in l1 ≡ lines_in old ++ If e ∷ [] → Appends l1 l2 part → lines_in l3 ≡ lines_in l2 ++ lines_of last
+    → lines_in new ≡ lines_in l3 ++ Close ∷ [] → Appends old new (c.If e (part last) c.End)
+unfolding lines_of
+part_lines old l1 l2 l3 new e part last opened within done closed = λ rest.
+    ap (λ (l : List Line). l ++ lines_of rest)
+    (closed ∙ ap (λ (l : List Line). l ++ Close ∷ [])
+    (done ∙ within last ∙ ap (λ (l : List Line). l ++ lines_of (part last)) opened))
+    ∙ simp append_assoc
+
+-- no lines are left
+pub none_left : (l : List Line) → l ≡ l ++ lines_of c.End
+unfolding lines_of
+none_left l = simp append-nil
+
+-- the refusals that an event below `ready` passes by
+pub refuse_lines : (K : Shape) (old new : List declared_line.Line) (n : ℕ) (e : CExpr)
+    → n ≡ leading_events K.names.events → n ≢ 0
+    → e ≡ Compare IsAtLeast event_local (Field (ready_field K))
+    → Appends old new (c.If e (refusals_c K c.End) c.End) → Appends old new (refuse_c K)
+refuse_lines K old new n e same some is h = λ rest.
+    let after : CExpr → Block = λ e. c.If e (refusals_c K c.End) c.End rest in
+    h rest ∙ ap (λ (e : CExpr). lines_in old ++ lines_of (after e)) is
+    ∙ ap (λ (b : Bool). lines_in old ++ lines_of (cond b (refusals_c K rest)
+    (after (Compare IsAtLeast event_local (Field (ready_field K))))))
+    (sym (sym (ap (λ (n : ℕ). nat_eq n 0) same) ∙ not_zero (nat_eq n 0) refl))
+  where
+    not_zero : (b : Bool) → nat_eq n 0 ≡ b → nat_eq n 0 ≡ false
+    not_zero true zero = absurd (some (grind (arith, nat_tests)))
+    not_zero false zero = zero

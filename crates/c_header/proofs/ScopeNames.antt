@@ -88,13 +88,13 @@ procedures procs = all_map (IsKind 1) (λ k. codes "p" ++ decimal k) (range_with
 
 others : AllByRecursion (IsKind 0) other_words
 unfolding kind_of
-others = (refl, (refl, (refl, (refl, (refl, (refl, (refl, (refl, (refl, (refl, tt))))))))))
+others = (refl, (refl, (refl, (refl, (refl, (refl, (refl, (refl, (refl, (refl, (refl, tt)))))))))))
 
 fixed : AllByRecursion (IsKind 4) fixed_words
 unfolding kind_of
 fixed =
     (refl, (refl, (refl, (refl, (refl, (refl, (refl, (refl, (refl, (refl, (refl, (refl, (refl, (refl, (refl, (refl,
-    tt))))))))))))))))
+    (refl, tt)))))))))))))))))
 
 events : (es : List EventDecl) → AllByRecursion (IsKind 2) (event_words es)
 unfolding kind_of

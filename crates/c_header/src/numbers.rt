@@ -76,7 +76,8 @@ pub(crate) fn print_faults(out: &mut String, chart: &str) -> Result<(), AllocErr
     print_define(out, chart, "FAULT_", "DEPTH", 1)?;
     print_define(out, chart, "FAULT_", "STEPS", 2)?;
     print_define(out, chart, "FAULT_", "OVERFLOW", 3)?;
-    print_define(out, chart, "FAULT_", "ZERO", 4)
+    print_define(out, chart, "FAULT_", "ZERO", 4)?;
+    print_define(out, chart, "FAULT_", "EVENT", 5)
 }
 
 /// Appends the bounds, and how many entries `out[]` and `note[]` have.

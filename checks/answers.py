@@ -85,7 +85,7 @@ QUEUE_LINE = re.compile('run (0|[1-9][0-9]*): ((?:full|empty) (?:0|[1-9][0-9]*))
 NET_START = re.compile('0 [A-Za-z][A-Za-z0-9_]* 0 start ')
 USAGE = ('usage: flowc check CHART, fmt CHART, rules CHART EVENTS, compile CHART, exec CODE EVENTS, run CHART EVENTS, '
          'upgrade CODE, bounds CHART, shrink CODE, net NET SCHEDULE, selftest N; --depth D, --steps S\n')
-C_USAGE = 'usage: chart_to_c header CHART, source CHART; --depth D, --steps S\n'
+C_USAGE = 'usage: chart_to_c header CHART, source CHART, --version; --depth D, --steps S\n'
 LINES = {0: '', 4: 'read fault\n', 5: 'write fault\n', 6: 'out of memory\n'}
 
 

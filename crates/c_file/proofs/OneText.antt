@@ -4,9 +4,12 @@ use Rattle.std.proofs.lemmas.List.{ext_get_or}
 use Rattle.flow_base.specs.declared.bounds.Bounds.{Bounds}
 use Rattle.c_subset.specs.Trees.{Function}
 use Rattle.c_text.specs.Labels.{Labels}
+use Rattle.c_header.specs.declared.facts.SourceFacts.{SourceFacts}
+use Rattle.c_header.specs.declared.identity.Identity.{Identity}
 use Rattle.c_header.specs.Header.{calls_number}
+use Rattle.c_file.specs.Facts.{AreFacts}
 use Rattle.c_file.specs.Reached.{AreReached}
-use Rattle.c_file.specs.Source.{source_text, IsSourceText}
+use Rattle.c_file.specs.Source.{source_text}
 use Rattle.c_file.proofs.OneCode.{same_truth}
 
 module _ (L : Labels) (functions : List Function) where
@@ -18,14 +21,13 @@ module _ (L : Labels) (functions : List Function) where
       (λ h. b.complete f (a.sound f h)) (λ h. a.complete f (b.sound f h)))
 
   -- and so there is one text for one number of calls
-  pub one_text : (said : List (List ℕ)) (bounds : Bounds) (outputs notes : ℕ) (text text' : List ℕ)
-      → (a : IsSourceText L said bounds outputs notes functions text)
-      → (b : IsSourceText L said bounds outputs notes functions text')
-      → calls_number a.calls ≡ calls_number b.calls → text ≡ text'
-  one_text said bounds outputs notes text text' a b calls =
-      a.is_text
-      ∙ ap (λ (written : List Bool).
-      source_text L said bounds outputs notes (calls_number a.calls) functions written)
-      (same_written a.written b.written a.reached b.reached)
-      ∙ ap (λ (n : ℕ). source_text L said bounds outputs notes n functions b.written) calls
-      ∙ sym b.is_text
+  pub one_text : (said : List (List ℕ)) (identity : Identity) (bounds : Bounds) (outputs notes : ℕ)
+      (facts facts' : SourceFacts) (x y : List Bool) → AreFacts L functions x facts → AreFacts L functions y facts'
+      → calls_number facts.calls ≡ calls_number facts'.calls
+      → source_text L said identity bounds outputs notes (calls_number facts.calls) functions x
+      ≡ source_text L said identity bounds outputs notes (calls_number facts'.calls) functions y
+  one_text said identity bounds outputs notes facts facts' x y a b calls =
+      ap (λ (written : List Bool).
+      source_text L said identity bounds outputs notes (calls_number facts.calls) functions written)
+      (same_written x y a.reached b.reached)
+      ∙ ap (λ (n : ℕ). source_text L said identity bounds outputs notes n functions y) calls

@@ -19,13 +19,18 @@ four_printed old first second third fourth one two three four a b c d =
 pub first_printed : (old text now : List ℕ) → old ≡ [] → now ≡ old ++ text → now ≡ text
 first_printed old text now none is = is ∙ ap (λ (t : List ℕ). t ++ text) none
 
--- seven texts
-pub seven_printed : (old a b c d e f g one two three four five six seven : List ℕ)
+-- three texts
+pub three_printed : (old first second third one two three : List ℕ)
+    → one ≡ old ++ first → two ≡ one ++ second → three ≡ two ++ third → three ≡ old ++ (first ++ (second ++ third))
+three_printed old first second third one two three a b c =
+    two_printed old first (second ++ third) one three a (two_printed one second third two three b c)
+
+-- six texts
+pub six_printed : (old a b c d e f one two three four five six : List ℕ)
     → one ≡ old ++ a → two ≡ one ++ b → three ≡ two ++ c → four ≡ three ++ d → five ≡ four ++ e → six ≡ five ++ f
-    → seven ≡ six ++ g → seven ≡ old ++ (a ++ (b ++ (c ++ (d ++ (e ++ (f ++ g))))))
-seven_printed old a b c d e f g one two three four five six seven p q r s t u v =
-    four_printed old a b c (d ++ (e ++ (f ++ g))) one two three seven p q r
-    (four_printed three d e f g four five six seven s t u v)
+    → six ≡ old ++ (a ++ (b ++ (c ++ (d ++ (e ++ f)))))
+six_printed old a b c d e f one two three four five six p q r s t u =
+    three_printed old a b (c ++ (d ++ (e ++ f))) one two six p q (four_printed two c d e f three four five six r s t u)
 
 -- a text that was printed of what is the same
 pub of_same : {X : Type 0} (text : X → List ℕ) (x y : X) (old now : List ℕ) → now ≡ old ++ text x → x ≡ y

@@ -1,11 +1,10 @@
 -- What both files of a chart are made from is that of the chart, and so are their texts.
-use Rattle.std.proofs.Common.{◌≡◌, ℕ, List, sym, ap, ◌∙◌, subst}
+use Rattle.std.proofs.Common.{◌≡◌, ℕ, Bool, List, sym, ap, ◌∙◌, subst}
 use Rattle.flow_base.specs.declared.bounds.Bounds.{Bounds}
 use Rattle.active_config.specs.Tree.{Tree}
 use Rattle.actions.specs.Names.{Names}
 use Rattle.checked_chart.specs.Chart.{Chart}
 use Rattle.code_language.specs.Code.{Code, code_of}
-use Rattle.chart_parts.specs.Parts.{parts_of}
 use Rattle.c_subset.specs.Trees.{Function}
 use Rattle.c_functions.specs.Plans.{Shape, Tests}
 use Rattle.c_functions.specs.Files.{shape_of}
@@ -13,12 +12,15 @@ use Rattle.c_text.specs.Labels.{Labels, labels_for, labels_of}
 use Rattle.c_expression_writer.specs.FileShapes.{shape_seen, tests_seen}
 use Rattle.c_file.specs.declared.made.Made.{Made}
 use Rattle.c_file.specs.declared.written.Written.{Written}
-use Rattle.c_file.specs.Comments.{comments_for, said_of}
-use Rattle.c_file.specs.Facts.{IsHeaderText}
+use Rattle.c_header.specs.declared.facts.SourceFacts.{SourceFacts}
+use Rattle.c_header.specs.declared.identity.Identity.{Identity}
+use Rattle.c_header.specs.Header.{calls_number, header_text}
+use Rattle.c_file.specs.Comments.{said_of}
+use Rattle.c_file.specs.Facts.{AreFacts}
 use Rattle.c_file.specs.Functions.{written_file}
 use Rattle.c_file.specs.Made.{functions_of}
-use Rattle.c_file.specs.Source.{IsSourceText}
-use Rattle.c_file.specs.Files.{chart_name, names_in, IsMadeFor, IsHeaderFor, IsSourceFor}
+use Rattle.c_file.specs.Source.{source_text}
+use Rattle.c_file.specs.Files.{chart_name, names_in, comments_in, IsMadeFor, header_for, source_for}
 
 -- names are made of what the chart declares, and of how many procedures the code has
 pub names_are : (c : Chart) (T : Tests) (limits : Bounds) (room : ℕ) (k : Code) (K : Shape)
@@ -48,31 +50,39 @@ module _ {c : Chart} {w : Written} {made : Made} (is : IsMadeFor c w made) where
       is.code
       ∙ ap (λ (S : Shape). (written_file (code_of w.code) S.tests S.bounds S.outputs).functions) is.shape
 
-  -- a source of these is that for the code
-  pub source_is : (text : List ℕ) → IsSourceText (labels_of made.labels) (said_of made.said) made.shape.bounds
-      made.shape.outputs made.shape.notes (functions_of made) text
-      → IsSourceFor c (tests_seen w.tests) w.limits w.outputs (code_of w.code) w.origins.items
-      w.tags.items text
-  source_is text it =
-      let k : Code = code_of w.code in
-      let said : List (List ℕ) =
-      comments_for c.tree c.names (parts_of c) w.origins.items w.tags.items in
-      subst (λ (S : Shape). IsSourceText (names_in c k) said S.bounds S.outputs S.notes
-      (written_file k (tests_seen w.tests) w.limits w.outputs).functions text) is.shape
-      (subst (λ (fs : List Function). IsSourceText (names_in c k) said made.shape.bounds made.shape.outputs
-      made.shape.notes fs text) functions_are
-      (subst (λ (xs : List (List ℕ)). IsSourceText (names_in c k) xs made.shape.bounds made.shape.outputs
-      made.shape.notes (functions_of made) text) is.said
-      (subst (λ (L : Labels). IsSourceText L (said_of made.said) made.shape.bounds made.shape.outputs
-      made.shape.notes (functions_of made) text) is.names it)))
+  -- what holds of them holds of the functions of that file
+  pub facts_hold : (written : List Bool) (facts : SourceFacts)
+      → AreFacts (labels_of made.labels) (functions_of made) written facts
+      → AreFacts (names_in c (code_of w.code))
+      (written_file (code_of w.code) (tests_seen w.tests) w.limits w.outputs).functions written facts
+  facts_hold written facts hold =
+      subst (λ (L : Labels). AreFacts L
+      (written_file (code_of w.code) (tests_seen w.tests) w.limits w.outputs).functions written facts) is.names
+      (subst (λ (fs : List Function). AreFacts (labels_of made.labels) fs written facts) functions_are hold)
 
-  -- and so is a header
-  pub header_is : (text : List ℕ)
-      → IsHeaderText (labels_of made.labels) (shape_seen made.shape) (functions_of made) text
-      → IsHeaderFor c (tests_seen w.tests) w.limits w.outputs (code_of w.code) text
-  header_is text it =
+  -- their source is that for the code
+  pub source_is : (written : List Bool) (facts : SourceFacts) (identity : Identity)
+      → source_text (labels_of made.labels) (said_of made.said) identity made.shape.bounds made.shape.outputs
+      made.shape.notes (calls_number facts.calls) (functions_of made) written
+      ≡ source_for c (tests_seen w.tests) w.limits w.outputs (code_of w.code) w.origins.items w.tags.items facts written
+      identity
+  source_is written facts identity =
       let k : Code = code_of w.code in
-      subst (λ (S : Shape). IsHeaderText (names_in c k) S
-      (written_file k (tests_seen w.tests) w.limits w.outputs).functions text) is.shape
-      (subst (λ (fs : List Function). IsHeaderText (names_in c k) (shape_seen made.shape) fs text) functions_are
-      (subst (λ (L : Labels). IsHeaderText L (shape_seen made.shape) (functions_of made) text) is.names it))
+      let n : ℕ = calls_number facts.calls in
+      ap (λ (L : Labels). source_text L (said_of made.said) identity made.shape.bounds made.shape.outputs
+      made.shape.notes n (functions_of made) written) is.names
+      ∙ ap (λ (xs : List (List ℕ)). source_text (names_in c k) xs identity made.shape.bounds made.shape.outputs
+      made.shape.notes n (functions_of made) written) is.said
+      ∙ ap (λ (fs : List Function). source_text (names_in c k) (comments_in c w.origins.items w.tags.items) identity
+      made.shape.bounds made.shape.outputs made.shape.notes n fs written) functions_are
+      ∙ ap (λ (S : Shape). source_text (names_in c k) (comments_in c w.origins.items w.tags.items) identity
+      S.bounds S.outputs S.notes n (written_file k (tests_seen w.tests) w.limits w.outputs).functions written) is.shape
+
+  -- and so is their header
+  pub header_is : (facts : SourceFacts) (identity : Identity)
+      → header_text made.name.now (shape_seen made.shape) facts identity
+      ≡ header_for c (tests_seen w.tests) w.limits w.outputs (code_of w.code) facts identity
+  header_is facts identity =
+      ap (λ (x : List ℕ). header_text x (shape_seen made.shape) facts identity)
+      (sym is.is_made.named ∙ ap (λ (L : Labels). L.chart) is.names)
+      ∙ ap (λ (S : Shape). header_text (names_in c (code_of w.code)).chart S facts identity) is.shape

@@ -1,5 +1,5 @@
 -- Header and source of a chart.
-use Rattle.std.specs.Prelude.{◌≡◌, ◌^◌, ◌<◌, ◌≤◌, ℕ, List, [], length, slice_index_or}
+use Rattle.std.specs.Prelude.{◌≡◌, ◌^◌, ◌<◌, ◌≤◌, ℕ, Bool, List, [], length, slice_index_or, string_bytes}
 use Rattle.std.specs.List.{All}
 use Rattle.flow_base.specs.declared.bounds.Bounds.{Bounds}
 use Rattle.checked_chart.specs.Chart.{Chart}
@@ -9,6 +9,9 @@ use Rattle.code_shrink.specs.Shrunk.{IsShrunk}
 use Rattle.code_shrink.specs.Origins.{HadNumbers}
 use Rattle.code_passes.specs.Passed.{IsFaster}
 use Rattle.code_depths.specs.Depths.{IsCut}
+use Rattle.code_counts.specs.declared.numbers.Counted.TheVariants.{Steps, Depth}
+use Rattle.code_counts.specs.Needed as needed
+use Rattle.code_counts.specs.Needed.{IsRoom}
 use Rattle.code_passes.specs.declared.tag.Tag.{Tag}
 use Rattle.chart_parts.specs.Parts.{parts_of}
 use Rattle.c_functions.specs.Failing.{AfterIsRight}
@@ -17,13 +20,17 @@ use Rattle.c_functions.specs.Plans.{Shape, Tests}
 use Rattle.c_runs.specs.Claims.{FileRunsAsRules, FitsChart, Serves}
 use Rattle.c_text.specs.Labels.{Labels, labels_for, labels_of}
 use Rattle.c_expression_writer.specs.FileShapes.{shape_seen, tests_seen}
+use Rattle.c_header.specs.declared.facts.SourceFacts.{SourceFacts}
+use Rattle.c_header.specs.declared.identity.Identity.{Identity}
+use Rattle.c_header.specs.Header.{calls_number, header_text}
+use Rattle.c_file.specs.declared.file.Files.{Files}
 use Rattle.c_file.specs.declared.made.Made.{Made}
 use Rattle.c_file.specs.declared.written.Written.{Written}
 use Rattle.c_file.specs.Comments.{IsTagOf, comments_for, said_of}
-use Rattle.c_file.specs.Facts.{IsHeaderText}
+use Rattle.c_file.specs.Facts.{AreFacts}
 use Rattle.c_file.specs.Functions.{written_file}
-use Rattle.c_file.specs.Made.{IsMade}
-use Rattle.c_file.specs.Source.{IsSourceText}
+use Rattle.c_file.specs.Made.{IsMade, functions_of}
+use Rattle.c_file.specs.Source.{source_text}
 
 -- the name of a chart is that of its root
 abbrev pub chart_name : Chart → List ℕ
@@ -51,6 +58,14 @@ pub record HasSizes (K : Shape) : Type 0 where
   pub some_notes : 1 ≤ K.notes
   pub few_notes : K.notes < 2 ^ 31
 
+-- The tests, the limits and the room are those that code needs under these bounds: a limit is no greater than its bound,
+-- and where it is tested it is that bound; where it isn't, no event of the code takes more. There is room for what an
+-- event emits under the limits, and for no more events than it has steps.
+pub record AreLimits (k : Code) (b : Bounds) (T : Tests) (limits : Bounds) (room : ℕ) : Type 0 where
+  pub steps : needed.Serves Steps k b.steps limits.steps T.steps
+  pub depth : needed.Serves Depth k b.depth limits.depth T.depth
+  pub outputs : IsRoom k limits room
+
 -- what both files of a chart under its bounds are written for: such code, which fits the chart as its tags do, with
 -- tests, limits and room for outputs that serve it, and arrays of sizes that C takes, where the result of each
 -- procedure that can fail is tested after a call
@@ -60,12 +75,17 @@ pub record IsWrittenUnder (c : Chart) (b : Bounds) (written : Written) : Type 0 
   pub tags : All (IsTagOf c) written.tags.items
   pub serves : Serves c b (code_of written.code) (tests_seen written.tests) written.limits
       written.outputs
+  pub limits_are : AreLimits (code_of written.code) b (tests_seen written.tests) written.limits written.outputs
   pub sizes : HasSizes (shape_of (code_of written.code) (tests_seen written.tests) written.limits written.outputs)
   pub after : AfterIsRight (tests_seen written.tests) (code_of written.code)
 
 -- what the names in the source for code of a chart are made of
 abbrev pub names_in : Chart → Code → Labels
 names_in c k = labels_for (chart_name c) c.names c.tree (length k.procedures.procs)
+
+-- what is said of the procedures of code with these tags, where those of the smaller code had these numbers
+abbrev pub comments_in : Chart → List ℕ → List Tag → List (List ℕ)
+comments_in c origins tags = comments_for c.tree c.names (parts_of c) origins tags
 
 -- Both files are made from what is written for a chart: from its code, with its tests, limits and room for outputs,
 -- from the names in its source and from what is said of its procedures
@@ -76,49 +96,58 @@ pub record IsMadeFor (c : Chart) (written : Written) (made : Made) : Type 0 wher
       ≡ shape_of (code_of written.code) (tests_seen written.tests) written.limits written.outputs
   pub names : labels_of made.labels ≡ names_in c (code_of written.code)
   pub said : said_of made.said
-      ≡ comments_for c.tree c.names (parts_of c) written.origins.items written.tags.items
+      ≡ comments_in c written.origins.items written.tags.items
 
--- The text is the source for code of a chart with these tags, with these tests, limits and room for outputs, where the
--- smaller code had these numbers: the functions that are reached, each procedure under words for the part of the chart
--- that it is of and for what it is a copy, and the check that the header has the same bounds, the same numbers of
--- outputs and notes, and the same number of calls: one that is true of the functions, or 0 where none is known
-abbrev pub IsSourceFor : Chart → Tests → Bounds → ℕ → Code → List ℕ → List Tag → List ℕ → Type 0
-IsSourceFor c T limits room k origins tags text =
-    IsSourceText (names_in c k) (comments_for c.tree c.names (parts_of c) origins tags) limits room
-    (shape_of k T limits room).notes (written_file k T limits room).functions text
+-- the header of the file for code of a chart, with these tests, limits and room for outputs, of whose functions these
+-- facts hold
+abbrev pub header_for : Chart → Tests → Bounds → ℕ → Code → SourceFacts → Identity → List ℕ
+header_for c T limits room k facts identity =
+    header_text (names_in c k).chart (shape_of k T limits room) facts identity
 
--- The text is the header for code of a chart, with these tests, limits and room for outputs: it declares the struct and
--- the calls of the file of that code, and says how many of the functions of that file are open at once at most, if that
--- is known, and whether one of those that are reached names a type of 128 bits
-abbrev pub IsHeaderFor : Chart → Tests → Bounds → ℕ → Code → List ℕ → Type 0
-IsHeaderFor c T limits room k text =
-    IsHeaderText (names_in c k) (shape_of k T limits room) (written_file k T limits room).functions text
+-- its source: the functions that are written, each procedure under words for the part of the chart that it is of and for
+-- what it is a copy, and the check that the header has the same bounds, the same numbers of outputs, notes and calls,
+-- and the sum of the same chart
+abbrev pub source_for : Chart → Tests → Bounds → ℕ → Code → List ℕ → List Tag → SourceFacts → List Bool → Identity
+    → List ℕ
+source_for c T limits room k origins tags facts written identity =
+    source_text (names_in c k) (comments_in c origins tags) identity limits room (shape_of k T limits room).notes
+    (calls_number facts.calls) (written_file k T limits room).functions written
 
--- The text is that of the header of a chart under these bounds: of code with the runs of its smaller code under these
--- bounds, with tests, limits and room for outputs that serve it, and arrays of sizes that C takes
-pub record IsHeader (c : Chart) (b : Bounds) (text : List ℕ) : Type 0 where
+-- both files are those of what they are made from, for a list of the functions that are reached and facts that hold
+pub record IsPrinted (made : Made) (identity : Identity) (files : Files) : Type 0 where
+  pub written : List Bool
+  pub facts : SourceFacts
+  pub hold : AreFacts (labels_of made.labels) (functions_of made) written facts
+  pub header_is : string_bytes files.header ≡ header_text made.name.now (shape_seen made.shape) facts identity
+  pub source_is : string_bytes files.source
+      ≡ source_text (labels_of made.labels) (said_of made.said) identity made.shape.bounds made.shape.outputs
+      made.shape.notes (calls_number facts.calls) (functions_of made) written
+
+-- The two texts are header and source of a chart, of this making: both of one code, made of the chart's smaller code,
+-- with the tests, limits and room that it needs under the bounds that were asked for, and arrays of sizes that C takes.
+-- The header says the facts that hold of the functions of its file, and the source has those that are reached. That file
+-- runs as the rules say under these bounds.
+pub record IsC (c : Chart) (identity : Identity) (header source : List ℕ) : Type 0 where
   pub code : Code
   pub tags : List Tag
   pub origins : List ℕ
   pub tests : Tests
   pub limits : Bounds
   pub room : ℕ
-  pub is_written : IsWritten c b code tags origins
-  pub serves : Serves c b code tests limits room
+  pub written : List Bool
+  pub facts : SourceFacts
+  pub is_written : IsWritten c identity.bounds code tags origins
+  pub limits_are : AreLimits code identity.bounds tests limits room
   pub sizes : HasSizes (shape_of code tests limits room)
-  pub is_text : IsHeaderFor c tests limits room code text
+  pub hold : AreFacts (names_in c code) (written_file code tests limits room).functions written facts
+  pub header_is : header ≡ header_for c tests limits room code facts identity
+  pub source_is : source ≡ source_for c tests limits room code origins tags facts written identity
+  pub runs : FileRunsAsRules c identity.bounds (shape_of code tests limits room) (written_file code tests limits room)
 
--- The text is that of the source of a chart under these bounds: of those functions that are reached of the file of code
--- with the runs of its smaller code, with tests, limits and room for outputs, and arrays of sizes that C takes; that
--- file runs as the rules say under these bounds
-pub record IsSource (c : Chart) (b : Bounds) (text : List ℕ) : Type 0 where
-  pub code : Code
-  pub tags : List Tag
-  pub origins : List ℕ
-  pub tests : Tests
-  pub limits : Bounds
-  pub room : ℕ
-  pub is_written : IsWritten c b code tags origins
-  pub sizes : HasSizes (shape_of code tests limits room)
-  pub is_text : IsSourceFor c tests limits room code origins tags text
-  pub runs : FileRunsAsRules c b (shape_of code tests limits room) (written_file code tests limits room)
+-- the text is the header of a chart's C, beside some source
+abbrev pub IsHeader : Chart → Identity → List ℕ → Type 0
+IsHeader c identity header = (source : List ℕ) × IsC c identity header source
+
+-- the text is the source of a chart's C, beside some header
+abbrev pub IsSource : Chart → Identity → List ℕ → Type 0
+IsSource c identity source = (header : List ℕ) × IsC c identity header source

@@ -1,15 +1,15 @@
 -- The text of a source: what is written of a file, and in which order.
-use Rattle.std.specs.Prelude.{◌≡◌, ◌<◌, ◌^◌, ℕ, ◌+◌, ◌-◌, ◌||◌, ◌&&◌, not, Bool, true, false, List, [], ◌∷◌, ◌++◌, length, codes}
-use Rattle.std.specs.Prelude.{decimal, slice_index_or, if◌then◌else◌, Option, IfSome}
+use Rattle.std.specs.Prelude.{◌≡◌, ℕ, ◌+◌, ◌-◌, ◌||◌, ◌&&◌, not, Bool, true, false, List, [], ◌∷◌, ◌++◌, length, codes}
+use Rattle.std.specs.Prelude.{decimal, slice_index_or, if◌then◌else◌}
 use Rattle.flow_base.specs.declared.bounds.Bounds.{Bounds}
 use Rattle.c_subset.specs.Trees.{Function}
 use Rattle.c_subset.specs.Lines.{lines_of}
 use Rattle.c_names.specs.Stems.{name_of_chart}
 use Rattle.c_text.specs.Labels.{Labels}
 use Rattle.c_text.specs.Functions.{prototype_text, function_text}
-use Rattle.c_header.specs.Header.{calls_number}
-use Rattle.c_file.specs.Heights.{HasMostOpen}
-use Rattle.c_file.specs.Reached.{outside_of, AreReached}
+use Rattle.c_header.specs.Identity.{identity_text, sum_numbers}
+use Rattle.c_header.specs.declared.identity.Identity.{Identity}
+use Rattle.c_file.specs.Reached.{outside_of}
 use Rattle.c_file.specs.Uses.{is_wide}
 
 -- ---- what is written
@@ -46,10 +46,10 @@ comment_text said f = codes "\n/* " ++ (comment_of said f ++ codes " */\n")
 -- ---- the text
 
 -- a comment that says what the file is, and the header of the chart
-unfoldable pub opening_text : List ℕ → List ℕ
-opening_text chart =
-    (codes "/* The C of the chart " ++ chart) ++ ((codes ", written by chart_to_c. Do not edit. " ++ chart)
-    ++ ((codes ".h says how it is used. */\n#include \"" ++ chart) ++ codes ".h\"\n\n"))
+unfoldable pub opening_text : List ℕ → Identity → List ℕ
+opening_text chart identity =
+    identity_text chart identity
+    ++ ((codes "   " ++ chart) ++ ((codes ".h says how it is used. */\n#include \"" ++ chart) ++ codes ".h\"\n\n"))
 
 -- words, and one of the chart's names, whose word goes on with other text
 abbrev pub named_text : List ℕ → List ℕ → List ℕ → List ℕ
@@ -59,17 +59,24 @@ named_text front chart back = front ++ name_of_chart chart back
 unfoldable pub number_is : List ℕ → List ℕ → List ℕ → ℕ → List ℕ
 number_is front chart name number = named_text front chart name ++ decimal number
 
--- A type that C refuses where the header has other bounds or other numbers of outputs, notes or calls than the source:
--- its size would be negative. So the struct of the header has the arrays of that of the source.
-unfoldable pub fits_text : List ℕ → Bounds → ℕ → ℕ → ℕ → List ℕ
-fits_text chart bounds outputs notes calls =
+-- that the header has these bounds, and these numbers of outputs, notes and calls
+unfoldable pub sizes_fit : List ℕ → Bounds → ℕ → ℕ → ℕ → List ℕ
+sizes_fit chart bounds outputs notes calls =
     named_text (codes "/* C refuses this type where the header has another of these numbers. */\ntypedef char ") chart
     (codes "header_fits[((")
     ++ (number_is [] chart (codes "DEPTH == ") bounds.depth
     ++ (number_is (codes ")\n    && (") chart (codes "STEPS == ") bounds.steps
     ++ (number_is (codes ")\n    && (") chart (codes "OUTPUTS == ") outputs
     ++ (number_is (codes ")\n    && (") chart (codes "NOTES == ") notes
-    ++ (number_is (codes ")\n    && (") chart (codes "CALLS == ") calls ++ codes ")) ? 1 : -1];\n\n")))))
+    ++ number_is (codes ")\n    && (") chart (codes "CALLS == ") calls))))
+
+-- A type that C refuses where the header has other bounds, other numbers of outputs, notes or calls, or the sum of
+-- another chart than the source: its size would be negative. So the struct of the header is that of the source.
+unfoldable pub fits_text : List ℕ → Identity → Bounds → ℕ → ℕ → ℕ → List ℕ
+fits_text chart identity bounds outputs notes calls =
+    sizes_fit chart bounds outputs notes calls
+    ++ (sum_numbers (codes ")\n    && (") (codes ")\n    && (") chart (codes " == ") identity.sum
+    ++ codes ")) ? 1 : -1];\n\n")
 
 -- the types of 128 bits, where one is named
 abbrev pub wide_text : List ℕ → Bool → List ℕ
@@ -101,26 +108,15 @@ functions_text L said written f [] = []
 functions_text L said written f (g ∷ gs) = written_text L said written f g ++ functions_text L said written (f + 1) gs
 
 -- what stands before the functions
-abbrev pub front_text : Labels → Bounds → ℕ → ℕ → ℕ → List Function → List Bool → List ℕ
-front_text L bounds outputs notes calls functions written =
-    opening_text L.chart
-    ++ (fits_text L.chart bounds outputs notes calls
+abbrev pub front_text : Labels → Identity → Bounds → ℕ → ℕ → ℕ → List Function → List Bool → List ℕ
+front_text L identity bounds outputs notes calls functions written =
+    opening_text L.chart identity
+    ++ (fits_text L.chart identity bounds outputs notes calls
     ++ (wide_text L.chart (any_wide written 0 functions) ++ declarations_text L written 0 functions))
 
--- the source of those of the functions that are written, for these bounds, a struct with room for so many outputs and
--- notes, and a header that has this number of calls
-unfoldable pub source_text : Labels → List (List ℕ) → Bounds → ℕ → ℕ → ℕ → List Function → List Bool → List ℕ
-source_text L said bounds outputs notes calls functions written =
-    front_text L bounds outputs notes calls functions written ++ functions_text L said written 0 functions
-
--- The text is the source of the functions that are reached, of which those of procedures do what is said, for these
--- bounds and a struct with room for so many outputs and notes. It fits a header that says how many of these functions
--- are open at once at most, if that is known, by a constant that fits an `int` of 32 bits (6.7.2.2 p2)
-pub record IsSourceText (L : Labels) (said : List (List ℕ)) (bounds : Bounds) (outputs notes : ℕ)
-    (functions : List Function) (text : List ℕ) : Type 0 where
-  pub calls : Option ℕ
-  pub most_calls : IfSome calls (HasMostOpen L functions)
-  pub few_calls : calls_number calls < 2 ^ 31
-  pub written : List Bool
-  pub reached : AreReached L functions written
-  pub is_text : text ≡ source_text L said bounds outputs notes (calls_number calls) functions written
+-- the source of this making, of those of the functions that are written, for these bounds, a struct with room for so
+-- many outputs and notes, and a header that has this number of calls
+unfoldable pub source_text : Labels → List (List ℕ) → Identity → Bounds → ℕ → ℕ → ℕ → List Function → List Bool
+    → List ℕ
+source_text L said identity bounds outputs notes calls functions written =
+    front_text L identity bounds outputs notes calls functions written ++ functions_text L said written 0 functions

@@ -3,27 +3,26 @@ ghost use Rattle.std.specs.Prelude.{◌≡◌, IfOk, string_bytes};
 ghost use Rattle.std.specs.List.{All};
 ghost use Rattle.checked_chart.specs.Kept.{chart_of};
 ghost use Rattle.code_language.specs.Code.{code_of};
-ghost use Rattle.c_text.specs.Labels.{labels_of};
 ghost use Rattle.c_expression_writer.specs.FileShapes.{shape_seen};
 ghost use Rattle.c_header.specs.Header.{header_text};
 ghost use Rattle.c_runs.specs.Claims.{FitsChart};
 ghost use Rattle.c_file.specs.Comments.{IsTagOf};
-ghost use Rattle.c_file.specs.Facts.{IsHeaderText};
-ghost use Rattle.c_file.specs.Files.{IsHeader, IsMadeFor, IsSource, chart_name};
-ghost use Rattle.c_file.specs.Made.{IsMade, functions_of};
+ghost use Rattle.c_file.specs.Files.{IsC, IsMadeFor, IsPrinted, chart_name};
+ghost use Rattle.c_file.specs.Made.{IsMade};
 
 use crate::facts::facts_of;
+use crate::known::uses_of;
 use crate::made::Made;
 use crate::printing::printed_source;
 use crate::said::Said;
 use crate::written::{Written, written_code};
 use c_expression_writer::FileShape;
-use c_header::{SourceFacts, print_header};
+use c_header::{Identity, SourceFacts, calls_number, print_header};
 use c_loops::loops_run_as_calls;
 use c_runs::files_of_code_that_serves_run_as_charts;
 use c_text::Labels;
 use checked_chart::Chart;
-use flow_base::{Bounds, Memory};
+use flow_base::Memory;
 use std::alloc::Global;
 
 /// The name of a chart.
@@ -63,59 +62,62 @@ fn made_of<'a>(alloc: Global, chart: &'a Chart, written: &'a Written) -> Result<
 }
 
 /// The header, where these facts hold of the source.
-fn header_with(alloc: Global, made: &Made<'_>, facts: SourceFacts) -> Result<String, Memory>
+fn printed_header(
+    alloc: Global,
+    made: &Made<'_>,
+    facts: SourceFacts,
+    identity: Identity,
+) -> Result<String, Memory>
     ensures { IfOk result (λ text. string_bytes text
-        ≡ header_text made.now.name.now (shape_seen made.now.shape) facts) }
+        ≡ header_text made.now.name.now (shape_seen made.now.shape) facts identity) }
 {
     let mut text = String::new(alloc);
-    match print_header(alloc, &mut text, made.name, &made.shape, facts) {
+    match print_header(alloc, &mut text, made.name, &made.shape, facts, identity) {
         Ok(()) => Ok(text),
         Err(_) => Err(Memory),
     }
 }
 
-/// The header. Each function of the source is made, to see what the header says of them.
-fn printed_header(alloc: Global, made: &Made<'_>) -> Result<String, Memory>
+/// The header and the source of a chart's C.
+#[derive(Drop)]
+pub struct Files {
+    /// The header, for a file `CHART.h`.
+    pub header: String,
+    /// The source, which includes the header by this name.
+    pub source: String,
+}
+
+/// Both files, made of the same. Each function is made twice: to see what it uses, and to print it.
+fn printed_files(alloc: Global, made: &Made<'_>, identity: Identity) -> Result<Files, Memory>
     requires is { IsMade made.now }
-    ensures { IfOk result (λ text. IsHeaderText (labels_of made.now.labels)
-        (shape_seen made.now.shape) (functions_of made.now) (string_bytes text)) }
+    ensures { IfOk result (IsPrinted made.now identity) }
 {
-    let facts = facts_of(alloc, made)?;
-    header_with(alloc, made, facts)
+    let uses = uses_of(alloc, made)?;
+    let facts = facts_of(alloc, made, &uses)?;
+    let header = printed_header(alloc, made, facts, identity)?;
+    let calls = calls_number(facts.calls);
+    let source = printed_source(alloc, made, &uses, calls, identity)?;
+    Ok(Files { header, source })
 }
 
-/// The header of a chart's C under these bounds, of the code for which its source is written.
+/// Header and source of a chart's C, both for the same code: what the header declares, and the
+/// functions that it needs. The code is faster than the smaller code of the chart and has its runs,
+/// and the C tests a bound of `identity` unless it is known that no event of that code overruns it.
+/// Each function is made, printed and dropped before the next one, so that no more than the texts,
+/// the code, one function and the numbers of functions that call each other are in memory at once.
 ///
 /// `Memory` only where memory was refused.
 ///
 /// Source: this project's choice.
-pub fn header(alloc: Global, chart: &Chart, bounds: Bounds) -> Result<String, Memory>
-    ensures { IfOk result
-        (λ text. IsHeader (chart_of chart.now) bounds (string_bytes text)) }
-{
-    let written = written_code(alloc, chart, bounds)?;
-    let made = made_of(alloc, chart, &written)?;
-    printed_header(alloc, &made)
-}
-
-/// The source of a chart's C under these bounds: what the header declares, and the functions that
-/// it needs. It is written for code that is faster than the smaller code of the chart and has its
-/// runs, and tests a bound unless it is known that no event of that code overruns it. Each function
-/// is made, printed and dropped before the next one, so that no more than the text, the code, one
-/// function and the numbers of functions that call each other are in memory at once.
-///
-/// `Memory` only where memory was refused.
-///
-/// Source: this project's choice.
-pub fn source(alloc: Global, chart: &Chart, bounds: Bounds) -> Result<String, Memory>
-    ensures { IfOk result
-        (λ text. IsSource (chart_of chart.now) bounds (string_bytes text)) }
+pub fn files(alloc: Global, chart: &Chart, identity: Identity) -> Result<Files, Memory>
+    ensures { IfOk result (λ files. IsC (chart_of chart.now) identity
+        (string_bytes files.header) (string_bytes files.source)) }
 {
     files_of_code_that_serves_run_as_charts();
     loops_run_as_calls();
     // Only the proof reads the shape: the chart is valid.
     let _ = chart.shape();
-    let written = written_code(alloc, chart, bounds)?;
+    let written = written_code(alloc, chart, identity.bounds)?;
     let made = made_of(alloc, chart, &written)?;
-    printed_source(alloc, &made)
+    printed_files(alloc, &made, identity)
 }

@@ -1,5 +1,5 @@
 //! What holds of the two files of a chart.
-ghost use Rattle.std.specs.Prelude.{◌≡◌, ℕ, List, [], ◌∷◌, ◌++◌, Some, true, codes, slice_get};
+ghost use Rattle.std.specs.Prelude.{◌≡◌, ℕ, List, [], ◌∷◌, ◌++◌, Bool, Some, true, codes, slice_get};
 ghost use Rattle.std.specs.List.{list_all};
 ghost use Rattle.active_config.specs.Tree.{Tree};
 ghost use Rattle.actions.specs.Names.{Names};
@@ -11,13 +11,16 @@ ghost use Rattle.flow_base.specs.declared.bounds.Bounds.{Bounds};
 ghost use Rattle.checked_chart.specs.Chart.{Chart};
 ghost use Rattle.code_language.specs.Code.{Code};
 ghost use Rattle.code_passes.specs.declared.tag.Tag.{Tag};
-ghost use Rattle.c_file.specs.Files.{IsCodeFor, IsSourceFor, IsWritten, names_in};
+ghost use Rattle.c_file.specs.Facts.{AreFacts};
+ghost use Rattle.c_file.specs.Files.{IsCodeFor, IsWritten, names_in, source_for};
 ghost use Rattle.c_file.specs.Functions.{written_file};
 ghost use Rattle.c_functions.specs.Files.{shape_of};
 ghost use Rattle.c_functions.specs.Plans.{Tests};
 ghost use Rattle.c_functions.specs.Starts.{HasShape};
 ghost use Rattle.c_subset.specs.Meaning.{Store};
 ghost use Rattle.c_subset.specs.Trees.{Function};
+ghost use Rattle.c_header.specs.declared.facts.SourceFacts.{SourceFacts};
+ghost use Rattle.c_header.specs.declared.identity.Identity.{Identity};
 ghost use Rattle.c_header.specs.Header.{calls_number};
 ghost use Rattle.c_text.specs.Functions.{head_text, prototype_text};
 
@@ -52,11 +55,14 @@ pub fn declarations_of_the_file_are_heads()
 /// The source for code of a chart is one, but for the number of calls with which it compares that
 /// of the header: which functions are written is told by the code.
 pub fn the_source_for_code_is_one()
-    ensures { (c : Chart) (T : Tests) (limits : Bounds) (room : ℕ) (k : Code)
-        (origins : List ℕ) (tags : List Tag) (text text' : List ℕ)
-        → (a : IsSourceFor c T limits room k origins tags text)
-        → (b : IsSourceFor c T limits room k origins tags text')
-        → calls_number a.calls ≡ calls_number b.calls → text ≡ text' }
+    ensures { (c : Chart) (T : Tests) (limits : Bounds) (room : ℕ) (k : Code) (origins : List ℕ)
+        (tags : List Tag) (identity : Identity) (facts facts' : SourceFacts)
+        (written written' : List Bool)
+        → AreFacts (names_in c k) (written_file k T limits room).functions written facts
+        → AreFacts (names_in c k) (written_file k T limits room).functions written' facts'
+        → calls_number facts.calls ≡ calls_number facts'.calls
+        → source_for c T limits room k origins tags facts written identity
+        ≡ source_for c T limits room k origins tags facts' written' identity }
 {}
 
 /// The words for what a copy of a procedure is for are one line in which no comment of C ends,

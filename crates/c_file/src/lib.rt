@@ -3,7 +3,7 @@
 //! Read `specs/Files.antt`, what the two texts are; `specs/Source.antt`, what a source consists of;
 //! `specs/Reached.antt`, which functions are written; `specs/Heights.antt`, how many functions are
 //! open at once; `specs/Facts.antt`, what the header says of them; and `specs/Comments.antt`, what is
-//! said of each procedure. The public calls are `header` and `source`.
+//! said of each procedure. The public call is `files`.
 #![tactic(auto)]
 
 mod calls;
@@ -19,7 +19,7 @@ mod said;
 mod uses;
 mod written;
 
-pub use file::{header, source};
+pub use file::{Files, files};
 pub use laws::{
     declarations_of_the_file_are_heads, the_smaller_code_of_a_chart_is_one,
     the_source_for_code_is_one, the_struct_of_the_header_is_that_of_the_source,

@@ -9,10 +9,9 @@ ghost use Rattle.c_file.specs.Source as spec;
 ghost use Rattle.c_file.specs.Uses.{is_wide};
 
 use crate::comments::print_comment;
-use crate::heights::most_open;
-use crate::known::{Uses, is_outside, uses_of};
+use crate::known::{Uses, is_outside};
 use crate::made::Made;
-use c_header::calls_number;
+use c_header::{Identity, print_identity, print_sum_numbers};
 use c_names::print_chart_name;
 use c_text::{function_kind, print_function, print_prototype};
 use code_fields::print_number;
@@ -65,12 +64,17 @@ fn print_named(out: &mut String, words: &str, chart: &str) -> Result<(), AllocEr
 
 /// Appends the comment that says what the file is, and the header of the chart.
 #[tactic(auto, unfolding(crate::specs::Source::opening_text))]
-fn print_opening(out: &mut String, chart: &str) -> Result<(), AllocError>
-    ensures { OnOk result
-        (string_bytes out.new ≡ string_bytes out.old ++ spec.opening_text chart.now) }
+fn print_opening(
+    alloc: Global,
+    out: &mut String,
+    chart: &str,
+    identity: Identity,
+) -> Result<(), AllocError>
+    ensures { OnOk result (string_bytes out.new
+        ≡ string_bytes out.old ++ spec.opening_text chart.now identity) }
 {
-    print_named(out, "/* The C of the chart ", chart)?;
-    print_named(out, ", written by chart_to_c. Do not edit. ", chart)?;
+    print_identity(alloc, out, chart, identity)?;
+    print_named(out, "   ", chart)?;
     print_named(out, ".h says how it is used. */\n#include \"", chart)?;
     out.push_str(".h\"\n\n")?;
     Ok(())
@@ -107,9 +111,9 @@ fn print_number_is(
     Ok(())
 }
 
-/// Appends the type that C refuses where the header has another of these numbers.
-#[tactic(auto, unfolding(crate::specs::Source::fits_text))]
-fn print_fits(
+/// Appends that the header has these bounds and these numbers.
+#[tactic(auto, unfolding(crate::specs::Source::sizes_fit))]
+fn print_sizes_fit(
     out: &mut String,
     chart: &str,
     bounds: Bounds,
@@ -118,7 +122,7 @@ fn print_fits(
     calls: u64,
 ) -> Result<(), AllocError>
     ensures { OnOk result (string_bytes out.new
-        ≡ string_bytes out.old ++ spec.fits_text chart.now bounds outputs notes calls) }
+        ≡ string_bytes out.old ++ spec.sizes_fit chart.now bounds outputs notes calls) }
 {
     print_of_chart(
         out,
@@ -149,6 +153,28 @@ fn print_fits(
     )?;
     print_number_is(out, ")\n    && (", chart, "NOTES == ", notes)?;
     print_number_is(out, ")\n    && (", chart, "CALLS == ", calls)?;
+    Ok(())
+}
+
+/// Appends the type that C refuses where the header has another of these numbers, or is of another
+/// chart.
+#[tactic(auto, unfolding(crate::specs::Source::fits_text))]
+fn print_fits(
+    alloc: Global,
+    out: &mut String,
+    made: &Made<'_>,
+    calls: u64,
+    identity: Identity,
+) -> Result<(), AllocError>
+    ensures { OnOk result (string_bytes out.new ≡ string_bytes out.old
+        ++ spec.fits_text made.now.name.now identity made.now.shape.bounds made.now.shape.outputs
+        made.now.shape.notes calls) }
+{
+    let chart = made.name;
+    let shape = &made.shape;
+    print_sizes_fit(out, chart, shape.bounds, shape.outputs, shape.notes, calls)?;
+    let and = ")\n    && (";
+    print_sum_numbers(alloc, out, and, and, chart, " == ", &identity.sum)?;
     out.push_str(")) ? 1 : -1];\n\n")?;
     Ok(())
 }
@@ -271,24 +297,23 @@ fn print_functions(
 }
 
 /// Appends what stands before the functions.
-fn print_front(out: &mut String, made: &Made<'_>, uses: &Uses, calls: u64) -> Result<(), AllocError>
+fn print_front(
+    alloc: Global,
+    out: &mut String,
+    made: &Made<'_>,
+    uses: &Uses,
+    calls: u64,
+    identity: Identity,
+) -> Result<(), AllocError>
     requires is { IsMade made.now }
     requires uses { AreUses (labels_of made.now.labels) (functions_of made.now) uses.now }
     ensures { OnOk result (string_bytes out.new ≡ string_bytes out.old
-        ++ spec.front_text (labels_of made.now.labels) made.now.shape.bounds
+        ++ spec.front_text (labels_of made.now.labels) identity made.now.shape.bounds
         made.now.shape.outputs made.now.shape.notes calls (functions_of made.now)
         uses.now.reached.items) }
 {
-    print_opening(out, made.name)?;
-    let shape = &made.shape;
-    print_fits(
-        out,
-        made.name,
-        shape.bounds,
-        shape.outputs,
-        shape.notes,
-        calls,
-    )?;
+    print_opening(alloc, out, made.name, identity)?;
+    print_fits(alloc, out, made, calls, identity)?;
     print_wide(out, made.name, any_wide(made, uses))?;
     print_declarations(out, made, uses)
 }
@@ -300,31 +325,38 @@ fn print_source(
     made: &Made<'_>,
     uses: &Uses,
     calls: u64,
+    identity: Identity,
 ) -> Result<(), Memory>
     requires is { IsMade made.now }
     requires uses { AreUses (labels_of made.now.labels) (functions_of made.now) uses.now }
     ensures { OnOk result (string_bytes out.new ≡ string_bytes out.old
-        ++ spec.source_text (labels_of made.now.labels) (said_of made.now.said)
+        ++ spec.source_text (labels_of made.now.labels) (said_of made.now.said) identity
         made.now.shape.bounds made.now.shape.outputs made.now.shape.notes calls
         (functions_of made.now) uses.now.reached.items) }
 {
-    let Ok(()) = print_front(out, made, uses, calls) else {
+    let Ok(()) = print_front(alloc, out, made, uses, calls, identity) else {
         return Err(Memory);
     };
     print_functions(alloc, out, made, uses)?;
     Ok(())
 }
 
-/// A source. Each function is made twice: to see what it uses, and to print it.
-pub(crate) fn printed_source(alloc: Global, made: &Made<'_>) -> Result<String, Memory>
+/// A source of this making, for a header that has this number of calls. Each function is made once
+/// more, printed and dropped.
+pub(crate) fn printed_source(
+    alloc: Global,
+    made: &Made<'_>,
+    uses: &Uses,
+    calls: u64,
+    identity: Identity,
+) -> Result<String, Memory>
     requires is { IsMade made.now }
-    ensures { IfOk result (λ text. spec.IsSourceText (labels_of made.now.labels)
-        (said_of made.now.said) made.now.shape.bounds made.now.shape.outputs
-        made.now.shape.notes (functions_of made.now) (string_bytes text)) }
+    requires uses { AreUses (labels_of made.now.labels) (functions_of made.now) uses.now }
+    ensures { IfOk result (λ text. string_bytes text ≡ spec.source_text (labels_of made.now.labels)
+        (said_of made.now.said) identity made.now.shape.bounds made.now.shape.outputs
+        made.now.shape.notes calls (functions_of made.now) uses.now.reached.items) }
 {
-    let uses = uses_of(alloc, made)?;
-    let calls = most_open(alloc, made, &uses)?;
     let mut text = String::new(alloc);
-    print_source(alloc, &mut text, made, &uses, calls_number(calls))?;
+    print_source(alloc, &mut text, made, uses, calls, identity)?;
     Ok(text)
 }

@@ -149,7 +149,7 @@ plain_calls = (refl, (refl, (refl, (refl, (refl, (refl, (refl, (refl, (refl, (re
 plain_fixed : AllByRecursion IsPlain fixed_words
 plain_fixed =
     (refl, (refl, (refl, (refl, (refl, (refl, (refl, (refl, (refl, (refl, (refl, (refl, (refl, (refl, (refl, (refl,
-    (refl, tt)))))))))))))))))
+    (refl, (refl, (refl, (refl, (refl, tt)))))))))))))))))))))
 
 pub plain_words : (K : Shape) → AllByRecursion IsPlain (scope_words K)
 plain_words K =

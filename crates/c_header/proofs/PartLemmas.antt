@@ -18,6 +18,14 @@ pushed (Err e) new more same left = tt
 after : (old a rest now : List ℕ) → now ≡ old ++ a → now ++ rest ≡ old ++ (a ++ rest)
 after old a rest now is = ap (λ (t : List ℕ). t ++ rest) is ∙ append_assoc old a rest
 
+-- a fifth part after four that were printed
+pub five_parts : (old a b c d e one two three four : List ℕ)
+    → one ≡ old ++ a → two ≡ one ++ b → three ≡ two ++ c → four ≡ three ++ d
+    → four ++ e ≡ old ++ (a ++ (b ++ (c ++ (d ++ e))))
+five_parts old a b c d e one two three four p q r s =
+    after three d e four s ∙ after two c (d ++ e) three r ∙ after one b (c ++ (d ++ e)) two q
+    ∙ after old a (b ++ (c ++ (d ++ e))) one p
+
 -- an eighth part after seven that were printed
 pub eight_parts : (old a b c d e f g h one two three four five six seven : List ℕ)
     → one ≡ old ++ a → two ≡ one ++ b → three ≡ two ++ c → four ≡ three ++ d → five ≡ four ++ e → six ≡ five ++ f
@@ -27,6 +35,14 @@ eight_parts old a b c d e f g h one two three four five six seven p q r s t u v 
     ∙ after three d (e ++ (f ++ (g ++ h))) four s ∙ after two c (d ++ (e ++ (f ++ (g ++ h)))) three r
     ∙ after one b (c ++ (d ++ (e ++ (f ++ (g ++ h))))) two q
     ∙ after old a (b ++ (c ++ (d ++ (e ++ (f ++ (g ++ h)))))) one p
+
+-- a ninth part after eight
+pub nine_parts : (old a b c d e f g h i one two three four five six seven eight : List ℕ)
+    → one ≡ old ++ a → two ≡ one ++ b → three ≡ two ++ c → four ≡ three ++ d → five ≡ four ++ e → six ≡ five ++ f
+    → seven ≡ six ++ g → eight ≡ seven ++ h
+    → eight ++ i ≡ old ++ (a ++ (b ++ (c ++ (d ++ (e ++ (f ++ (g ++ (h ++ i))))))))
+nine_parts old a b c d e f g h i one two three four five six seven eight p q r s t u v w =
+    after seven h i eight w ∙ eight_parts old a b c d e f g (h ++ i) one two three four five six seven p q r s t u v
 
 -- a part that was printed of what is the same
 pub of_same : {X : Type 0} (text : X → List ℕ) (x y : X) (old now : List ℕ) → now ≡ old ++ text x → x ≡ y

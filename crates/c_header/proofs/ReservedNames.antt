@@ -473,7 +473,7 @@ our_words K =
     (refl, (refl, (refl, (refl, (refl, (refl, (refl, (refl, (refl, (refl, (refl, tt))))))))))))
     (all_both IsOurs fixed_words (ofs ++ ins)
     (refl, (refl, (refl, (refl, (refl, (refl, (refl, (refl, (refl, (refl, (refl, (refl, (refl, (refl, (refl, (refl,
-    (refl, tt)))))))))))))))))
+    (refl, (refl, (refl, (refl, (refl, tt)))))))))))))))))))))
     (all_both IsOurs ofs ins (all_events IsOurs K.names.events (λ name. refl))
     (all_map IsOurs (test_word K.tree K.names) (range_with_len 1 (state_count K.tree - 1)) (λ x. refl))))
 

@@ -94,7 +94,7 @@ fixed : AllByRecursion (IsKind 4) fixed_words
 unfolding kind_of
 fixed =
     (refl, (refl, (refl, (refl, (refl, (refl, (refl, (refl, (refl, (refl, (refl, (refl, (refl, (refl, (refl, (refl,
-    (refl, tt)))))))))))))))))
+    (refl, (refl, (refl, (refl, (refl, tt)))))))))))))))))))))
 
 events : (es : List EventDecl) → AllByRecursion (IsKind 2) (event_words es)
 unfolding kind_of

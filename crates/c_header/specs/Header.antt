@@ -16,9 +16,11 @@ use Rattle.c_text.specs.Labels.{Labels, labels_for}
 use Rattle.c_text.specs.Expressions.{bare}
 use Rattle.c_text.specs.Functions.{prototype_text}
 use Rattle.c_header.specs.declared.facts.SourceFacts.{SourceFacts}
+use Rattle.c_header.specs.declared.identity.Identity.{Identity}
 use Rattle.c_header.specs.declared.states.About.{About}
 use Rattle.c_header.specs.declared.states.About.TheVariants.{Active, Remembered, Bits, Test}
 use Rattle.c_header.specs.declared.paths.Form.TheVariants.{Words, Label}
+use Rattle.c_header.specs.Identity.{identity_text, sums_text}
 use Rattle.c_header.specs.Paths.{path_text}
 use Rattle.c_header.specs.Fields.{texts_below, data_text, counters_text, active_field, last_field, for_or, bits_line}
 
@@ -35,7 +37,7 @@ named_text front chart back = front ++ name_of_chart chart back
 -- what an engineer has to know
 unfoldable pub usage_text : List ℕ → List ℕ
 usage_text chart =
-    codes "   All memory is one struct, which the caller owns. Before the start and before each event\n"
+    codes "\n   All memory is one struct, which the caller owns. Before the start and before each event\n"
     ++ (codes "   store the inputs (in_..). After it read the outputs (out_..), the events that were\n"
     ++ (codes "   emitted (out[0] to out[outs - 1]) and which states are active. Each call returns whether\n"
     ++ (codes "   it ended without a fault. After a fault, which fault and fault_datum tell, the run is\n"
@@ -132,11 +134,11 @@ calls_number None = 0
 
 -- functions may call themselves only where the compiler is told that they may
 abbrev pub recursion_text : List ℕ → Option ℕ → List ℕ
-recursion_text chart (Some most) = codes "\n"
+recursion_text chart (Some most) = []
 recursion_text chart None =
     named_text (codes "#if !defined(") chart (codes "MAY_RECURSE)\n")
     ++ named_text (codes "#error \"functions may call themselves: where they may, define ") chart
-    (codes "MAY_RECURSE\"\n#endif\n\n")
+    (codes "MAY_RECURSE\"\n#endif\n")
 
 -- how many functions are open at once at most
 unfoldable pub calls_text : List ℕ → Option ℕ → List ℕ
@@ -222,14 +224,16 @@ react_text chart L K =
 -- ---- the whole
 
 -- what stands before the struct
-unfoldable pub front_text : List ℕ → Shape → SourceFacts → List ℕ
-front_text chart K facts =
-    titled_text (codes "/* The C of the chart ") chart (codes ", written by chart_to_c. Do not edit.\n\n")
+unfoldable pub front_text : List ℕ → Shape → SourceFacts → Identity → List ℕ
+front_text chart K facts identity =
+    identity_text chart identity
     ++ (usage_text chart
     ++ (needs_text chart
     ++ (wide_needs facts.wide
     ++ (events_text chart K.names.events
-    ++ (faults_text chart ++ (bounds_text chart K.bounds K.outputs K.notes ++ calls_text chart facts.calls))))))
+    ++ (faults_text chart
+    ++ (bounds_text chart K.bounds K.outputs K.notes
+    ++ (calls_text chart facts.calls ++ sums_text chart identity)))))))
 
 -- the end
 abbrev pub end_text : List ℕ
@@ -241,7 +245,7 @@ back_text chart L K =
     struct_text chart L K
     ++ (init_text L K ++ (start_text chart L K ++ (react_text chart L K ++ (states_text chart L K Test ++ end_text))))
 
--- the header of a chart of that name, of whose source these facts hold
-unfoldable pub header_text : List ℕ → Shape → SourceFacts → List ℕ
-header_text chart K facts =
-    front_text chart K facts ++ back_text chart (labels_for chart K.names K.tree K.procs) K
+-- the header of a chart of that name, of whose source these facts hold, of this making
+unfoldable pub header_text : List ℕ → Shape → SourceFacts → Identity → List ℕ
+header_text chart K facts identity =
+    front_text chart K facts identity ++ back_text chart (labels_for chart K.names K.tree K.procs) K

@@ -40,13 +40,14 @@ abbrev pub test_words : Tree → Names → List (List ℕ)
 test_words t n = map (test_word t n) (range_with_len 1 (state_count t - 1))
 
 -- the words that all files have: the struct, an event without a name, faults, bounds, for how many outputs and notes
--- there is room, how many functions are open, what tells the compiler that functions may call themselves, the check of
--- the source whether the header fits it, and the types of 128 bits
+-- there is room, how many functions are open, the sum of the chart, what tells the compiler that functions may call
+-- themselves, the check of the source whether the header fits it, and the types of 128 bits
 abbrev pub fixed_words : List (List ℕ)
 fixed_words =
     codes "chart" ∷ codes "TICK" ∷ codes "FAULT_NONE" ∷ codes "FAULT_DEPTH" ∷ codes "FAULT_STEPS"
     ∷ codes "FAULT_OVERFLOW" ∷ codes "FAULT_ZERO" ∷ codes "FAULT_EVENT" ∷ codes "DEPTH" ∷ codes "STEPS"
-    ∷ codes "OUTPUTS" ∷ codes "NOTES" ∷ codes "CALLS" ∷ codes "MAY_RECURSE" ∷ codes "header_fits" ∷ codes "int128" ∷ codes "uint128" ∷ []
+    ∷ codes "OUTPUTS" ∷ codes "NOTES" ∷ codes "CALLS" ∷ codes "SUM_0" ∷ codes "SUM_1" ∷ codes "SUM_2" ∷ codes "SUM_3"
+    ∷ codes "MAY_RECURSE" ∷ codes "header_fits" ∷ codes "int128" ∷ codes "uint128" ∷ []
 
 -- the words of all names at file scope: of functions, and others
 abbrev pub scope_words : Shape → List (List ℕ)

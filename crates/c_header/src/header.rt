@@ -6,15 +6,17 @@ ghost use Rattle.c_header.specs.Header as spec;
 
 use crate::facts::SourceFacts;
 use crate::fields::{print_counters, print_data, print_rows};
+use crate::identity::{Identity, print_identity, print_sums};
 use crate::numbers::{print_bounds, print_calls, print_events, print_faults};
 use crate::states::{About, print_states};
-use crate::words::{print_named, print_titled};
+use crate::words::print_named;
 use c_expression_writer::FileShape;
 use c_names::print_guard_name;
 use c_text::{Labels, print_prototype};
 use std::alloc::{AllocError, Global};
 
-/// Appends the header of the C of a chart of that name, of whose source the facts hold.
+/// Appends the header of the C of a chart of that name, of whose source the facts hold, of this
+/// making.
 ///
 /// The text is this project's choice (`specs/Header.antt`). On an error a part of it was appended.
 #[tactic(auto, unfolding(crate::specs::Header::header_text))]
@@ -24,39 +26,38 @@ pub fn print_header(
     chart: &str,
     shape: &FileShape<'_>,
     facts: SourceFacts,
+    identity: Identity,
 ) -> Result<(), AllocError>
     ensures { OnOk result (string_bytes out.new
-        ≡ string_bytes out.old ++ spec.header_text chart.now (shape_seen shape.now) facts) }
+        ≡ string_bytes out.old ++ spec.header_text chart.now (shape_seen shape.now) facts identity) }
 {
     let labels = Labels::make(chart, shape.names, shape.tree, shape.procs);
-    print_front(out, chart, shape, facts)?;
+    print_front(alloc, out, chart, shape, facts, identity)?;
     print_back(alloc, out, chart, &labels, shape)
 }
 
 /// Appends what stands before the struct.
 #[tactic(auto, unfolding(crate::specs::Header::front_text))]
 fn print_front(
+    alloc: Global,
     out: &mut String,
     chart: &str,
     shape: &FileShape<'_>,
     facts: SourceFacts,
+    identity: Identity,
 ) -> Result<(), AllocError>
     ensures { OnOk result (string_bytes out.new
-        ≡ string_bytes out.old ++ spec.front_text chart.now (shape_seen shape.now) facts) }
+        ≡ string_bytes out.old ++ spec.front_text chart.now (shape_seen shape.now) facts identity) }
 {
-    print_titled(
-        out,
-        "/* The C of the chart ",
-        chart,
-        ", written by chart_to_c. Do not edit.\n\n",
-    )?;
+    print_identity(alloc, out, chart, identity)?;
     print_usage(out, chart)?;
     print_needs(out, chart)?;
     print_wide(out, facts.wide)?;
     print_events(out, chart, shape.names.events.items())?;
     print_faults(out, chart)?;
     print_bounds(out, chart, shape.bounds, shape.outputs, shape.notes)?;
-    print_calls(out, chart, facts.calls)
+    print_calls(out, chart, facts.calls)?;
+    print_sums(alloc, out, chart, identity)
 }
 
 /// Appends what an engineer has to know.
@@ -66,7 +67,7 @@ fn print_usage(out: &mut String, chart: &str) -> Result<(), AllocError>
         (string_bytes out.new ≡ string_bytes out.old ++ spec.usage_text chart.now) }
 {
     out.push_str(
-        "   All memory is one struct, which the caller owns. Before the start and before each event\n",
+        "\n   All memory is one struct, which the caller owns. Before the start and before each event\n",
     )?;
     out.push_str(
         "   store the inputs (in_..). After it read the outputs (out_..), the events that were\n",

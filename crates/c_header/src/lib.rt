@@ -2,14 +2,17 @@
 //! struct with a comment on each field, the two calls, and a test of each state.
 //!
 //! Read `specs/Header.antt`, and what it uses: `specs/Fields.antt`, the fields of the struct, and
-//! `specs/Paths.antt`, the names of states. Laws say more of that text: `specs/Struct.antt`, that
+//! `specs/Paths.antt`, the names of states; and `specs/Identity.antt`, what both files say of their
+//! making. Laws say more of that text: `specs/Struct.antt`, that
 //! it declares the struct of the file, and `specs/Scope.antt`, that no two names at file scope are
-//! the same. The public calls are `print_header` and `calls_number`.
+//! the same. The public calls are `print_header`, `print_identity`, `print_sum_numbers`, `version` and
+//! `calls_number`.
 #![tactic(auto)]
 
 mod facts;
 mod fields;
 mod header;
+mod identity;
 mod laws;
 mod numbers;
 mod paths;
@@ -18,6 +21,7 @@ mod words;
 
 pub use facts::{SourceFacts, calls_number};
 pub use header::print_header;
+pub use identity::{Identity, print_identity, print_sum_numbers, version};
 pub use laws::{
     names_of_the_header_are_distinct, names_of_two_charts_are_different,
     no_name_of_the_header_is_a_keyword, no_name_of_the_header_is_reserved,

@@ -128,10 +128,10 @@ fn print_recursion(out: &mut String, chart: &str, calls: Option<u32>) -> Result<
             out,
             "#error \"functions may call themselves: where they may, define ",
             chart,
-            "MAY_RECURSE\"\n#endif\n\n",
+            "MAY_RECURSE\"\n#endif\n",
         );
     };
-    out.push_str("\n")
+    Ok(())
 }
 
 /// What the header says above that number.

@@ -1,7 +1,7 @@
 -- Where no file was read, all files keep what they have left.
 use Rattle.std.proofs.Common.{◌≡◌, ℕ, List, [], Option, Some, None, ap}
 use Rattle.commands.specs.Call.{Sources, Call, OthersStay}
-use Rattle.c_program.specs.Commands.{Command, Header, Source, files_named}
+use Rattle.c_program.specs.Commands.{Command, Header, Source, Version, files_named}
 use Rattle.c_program.specs.Answer.{OthersKeep}
 
 -- files of any names
@@ -14,3 +14,4 @@ pub none_read : (command : Option Command) (call : Call) → call.sources_after 
 none_read None call same = all_stay [] _ _ same
 none_read (Some (Header first asked)) call same = all_stay (files_named (Header first asked)) _ _ same
 none_read (Some (Source first asked)) call same = all_stay (files_named (Source first asked)) _ _ same
+none_read (Some Version) call same = all_stay (files_named Version) _ _ same

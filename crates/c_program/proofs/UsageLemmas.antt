@@ -7,7 +7,7 @@ use Rattle.commands.specs.declared.text.TextEnd.{TextEnd}
 use Rattle.commands.specs.declared.text.TextEnd.TheVariants as texts
 use Rattle.commands.specs.declared.refusal.Refusal.{Refusal}
 use Rattle.commands.specs.Call.{Call}
-use Rattle.c_program.specs.Commands.{Command, Header, Source}
+use Rattle.c_program.specs.Commands.{Command, Header, Source, Version}
 use Rattle.c_program.specs.declared.ending.Ending.{Ending}
 use Rattle.c_program.specs.declared.ending.Ending.TheVariants as endings
 use Rattle.c_program.specs.Ending.{of_chart_file, of_text, status_of}
@@ -38,6 +38,7 @@ usage_ending endings.Memory e = absurd cc
 never : (command : Command) (call : Call) → Ends (Some command) call endings.Usage → ⊥
 never (Header first asked) call h = text h.end h.ending_is
 never (Source first asked) call h = text h.end h.ending_is
+never Version call h = text h.end h.ending_is
 
 -- a call ends as Usage only where its words ask for no command
 pub usage_only : (command : Option Command) (call : Call) (ending : Ending) → CallEnds command call ending

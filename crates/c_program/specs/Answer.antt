@@ -6,8 +6,9 @@ use Rattle.flow_base.specs.declared.status.Status.{Status}
 use Rattle.commands.specs.Call.{Output, Call, OthersStay}
 use Rattle.commands.specs.Endings.{EndsAs, EndsAtOnce}
 use Rattle.commands.specs.ErrorLines.{LineStands}
-use Rattle.c_program.specs.Commands.{Command, Header, Source, files_named}
-use Rattle.c_program.specs.Texts.{HeaderEnds, SourceEnds}
+use Rattle.c_program.specs.Commands.{Command, Header, Source, Version, files_named}
+use Rattle.c_program.specs.Texts.{FileEnds, VersionEnds}
+use Rattle.c_program.specs.declared.files.CFile.TheVariants as files
 use Rattle.c_program.specs.declared.ending.Ending.{Ending}
 use Rattle.c_program.specs.declared.ending.Ending.TheVariants as endings
 use Rattle.c_program.specs.Ending.{of_text, status_of, line_of}
@@ -15,8 +16,9 @@ use Rattle.c_program.specs.Ending.{of_text, status_of, line_of}
 -- how a command ends, and when; arguments that ask for none are Usage
 abbrev pub Ends : Option Command → Call → Ending → Type 0
 Ends None call ending = EndsAtOnce call endings.Usage ending
-Ends (Some (Header first asked)) call ending = EndsAs of_text (HeaderEnds asked call first) ending
-Ends (Some (Source first asked)) call ending = EndsAs of_text (SourceEnds asked call first) ending
+Ends (Some (Header first asked)) call ending = EndsAs of_text (FileEnds files.Header asked call first) ending
+Ends (Some (Source first asked)) call ending = EndsAs of_text (FileEnds files.Source asked call first) ending
+Ends (Some Version) call ending = EndsAs of_text (VersionEnds call) ending
 
 -- files that the arguments don't name keep what they have left
 abbrev pub OthersKeep : Option Command → Call → Type 0
@@ -25,6 +27,7 @@ OthersKeep (Some (Header first asked)) call =
     OthersStay (files_named (Header first asked)) call.sources_before call.sources_after
 OthersKeep (Some (Source first asked)) call =
     OthersStay (files_named (Source first asked)) call.sources_before call.sources_after
+OthersKeep (Some Version) call = OthersStay (files_named Version) call.sources_before call.sources_after
 
 -- how a call ends, and when: as the command does, or memory runs out before the arguments are read
 abbrev pub CallEnds : Option Command → Call → Ending → Type 0

@@ -36,7 +36,7 @@ status_of endings.Memory = statuses.Memory
 abbrev pub line_of : Ending → List ℕ
 line_of endings.Done = []
 line_of (endings.Chart refusal) = refusal_line refusal
-line_of endings.Usage = codes "usage: chart_to_c header CHART, source CHART; --depth D, --steps S\n"
+line_of endings.Usage = codes "usage: chart_to_c header CHART, source CHART, --version; --depth D, --steps S\n"
 line_of endings.Read = codes "read fault\n"
 line_of endings.Write = codes "write fault\n"
 line_of endings.Memory = codes "out of memory\n"

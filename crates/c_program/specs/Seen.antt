@@ -15,3 +15,4 @@ asked_seen asked = option_map bounds_seen asked
 abbrev pub command_seen : CCommand → words.Command
 command_seen (commands.Header first asked) = words.Header first.now (asked_seen asked)
 command_seen (commands.Source first asked) = words.Source first.now (asked_seen asked)
+command_seen commands.Version = words.Version

@@ -6,9 +6,9 @@ ghost use Rattle.c_program.specs.Words.{command_of};
 ghost use Rattle.c_program.specs.Answer.{Ends, CallEnds, OthersKeep, CAnswer};
 
 use crate::ending::Ending;
-use crate::header::write_header;
+use crate::files::{CFile, write_file};
 use crate::report::report;
-use crate::source::write_source;
+use crate::version::write_version;
 use crate::words::{CCommand, command_from};
 use flow_base::{Inputs, Memory, Sink, Status};
 use std::alloc::Global;
@@ -20,7 +20,7 @@ use std::alloc::Global;
 /// `header CHART` writes the header of the C of the accepted chart of the file, and `source CHART`
 /// its source. Both take the bounds `--depth` and `--steps`; where neither stands there, the bounds
 /// are those that no event of the chart overruns, if it has such bounds, and else the default ones.
-/// All other arguments are refused as Usage. Any arguments may end in Memory before anything is
+/// `--version` alone writes the version. All other arguments are refused as Usage. Any arguments may end in Memory before anything is
 /// read.
 pub fn c_main<I: Inputs, O: Sink, E: Sink>(
     alloc: Global,
@@ -86,10 +86,11 @@ fn answer<I: Inputs, O: Sink>(
 {
     match command {
         CCommand::Header(chart, asked) => {
-            Ending::from(write_header(alloc, chart, asked, inputs, out))
+            Ending::from(write_file(alloc, CFile::Header, chart, asked, inputs, out))
         }
         CCommand::Source(chart, asked) => {
-            Ending::from(write_source(alloc, chart, asked, inputs, out))
+            Ending::from(write_file(alloc, CFile::Source, chart, asked, inputs, out))
         }
+        CCommand::Version => Ending::from(write_version(inputs, out)),
     }
 }

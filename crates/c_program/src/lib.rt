@@ -9,7 +9,7 @@
 //! speak of `clap`. `specs/Parser.antt` and `specs/Asked.antt` are the parser as `clap` sees it and
 //! what its answers stand for.
 //!
-//! The commands are `header` and `source`: the C of a chart. Read `specs/Bounds.antt`, which bounds
+//! The commands are `header` and `source`, the files of the C of a chart, and `--version`. Read `specs/Bounds.antt`, which bounds
 //! the C of a chart has, and then `specs/Texts.antt`, how the commands end.
 //! `bounds_of_need_are_not_overrun` says what bounds are worth that the chart itself gives.
 //!
@@ -21,10 +21,10 @@ mod bounds;
 mod bounds_laws;
 mod command;
 mod ending;
-mod header;
+mod files;
 mod parser;
 mod report;
-mod source;
+mod version;
 mod words;
 
 pub use bounds::bounds_for;

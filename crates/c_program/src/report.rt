@@ -23,7 +23,7 @@ pub fn report<E: Sink>(err: &mut E, ending: &Ending) -> Result<(), Failed>
         Ending::Chart(refusal) => write_refusal(err, *refusal),
         Ending::Usage => write_all(
             err,
-            b"usage: chart_to_c header CHART, source CHART; --depth D, --steps S\n",
+            b"usage: chart_to_c header CHART, source CHART, --version; --depth D, --steps S\n",
         ),
         Ending::Read => write_all(err, b"read fault\n"),
         Ending::Write => write_all(err, b"write fault\n"),

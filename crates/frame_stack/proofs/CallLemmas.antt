@@ -5,14 +5,14 @@ use Rattle.std.proofs.lemmas.List.{length-set, nil_from_length}
 use Rattle.std.specs.Prelude.{All}
 use Rattle.frame_stack.specs.declared.slot.Slot.{Slot}
 use Rattle.frame_stack.specs.declared.chunk.Chunk.{Chunk}
-use Rattle.frame_stack.specs.Chunks.{words_in, IsSlot, IsChunk, IsFree, places, slots_in, frames_in, somes}
+use Rattle.frame_stack.specs.Chunks.{words_in, with_word, IsSlot, IsChunk, IsFree, places, slots_in, frames_in, somes}
 use Rattle.frame_stack.specs.Chunks.{stack_frames, Holds, IsStack}
 use Rattle.frame_stack.specs.Places.{IsFilled}
 use Rattle.frame_stack.specs.Stacks.{Stack, stack}
-use Rattle.frame_stack.proofs.FrameLemmas.{frames_length, frames_push, frames_take, frame_at, slot_at}
-use Rattle.frame_stack.proofs.FrameLemmas.{take_long}
+use Rattle.frame_stack.proofs.FrameLemmas.{frames_length, frames_push, frames_take, frames_set, frame_at, slot_at}
+use Rattle.frame_stack.proofs.FrameLemmas.{take_long, word_below, word_set}
 use Rattle.frame_stack.proofs.StackLemmas.{same_slots, is_stack, no_slot, total, small, within, is_chunk, pushed}
-use Rattle.frame_stack.proofs.StackLemmas.{popped}
+use Rattle.frame_stack.proofs.StackLemmas.{popped, replaced}
 use Rattle.frame_stack.proofs.StackLemmas.{slot_of, none_of, added, free_chunks, free_places, all_free}
 
 -- a stack with these fields, which a contract sees as v
@@ -59,6 +59,9 @@ module _ {cs : List Chunk} {len n : ℕ} {v : Stack} (is : IsStack cs len n) (se
     held_good : IsSlot held
     held_good = slot_at ss i no_slot is.holds.slots below
 
+    pub word_small : (w : ℕ) → w < length (get_or v.frames i []) → w < 7
+    word_small w some = omega (arith, some, ap length held_words, held_good.1, word_below held)
+
     -- its chunk
     module _ (d : Chunk) (e : d ≡ get_or cs (i / 1024) d) where
       pub frame_chunk : IsChunk d
@@ -82,6 +85,29 @@ module _ {cs : List Chunk} {len n : ℕ} {v : Stack} (is : IsStack cs len n) (se
 
         pub frame_words : words_in s ≡ get_or v.frames i []
         frame_words = ap words_in (sym found) ∙ held_words
+
+      -- its chunk after the word w was changed
+      module _ (c : Chunk) (w value : ℕ) (ok : IsChunk c) (some : w < length (get_or v.frames i []))
+          (made : (s : Slot) → get_or d.cells.slots (i % 1024) None ≡ Some s
+          → c.cells.slots ≡ set d.cells.slots (i % 1024) (Some (with_word s w value))) where
+        abbrev written : Slot
+        written = with_word held w value
+
+        holds_written : Holds (set cs (i / 1024) c) (set ss i written) n
+        holds_written = replaced cs ss n is.holds i below d c written e ok (made held held_there) held_good
+
+        pub set_stack : IsStack (set cs (i / 1024) c) len n
+        set_stack =
+            is_stack (set cs (i / 1024) c) (set ss i written) len n holds_written
+            (is.counted ∙ sym (length-set ss i written)) (omega (arith, length-set cs (i / 1024) c, is.few))
+
+        pub set_frames : stack_frames (set cs (i / 1024) c) ≡ set v.frames i (set (get_or v.frames i []) w value)
+        set_frames =
+            let low : w < held.count = omega (arith, some, ap length held_words, word_below held) in
+            ap frames_in (same_slots (set cs (i / 1024) c) (set ss i written) n holds_written)
+            ∙ frames_set ss i written
+            ∙ ap (λ ws. set (frames_in ss) i ws) (word_set held w value low ∙ ap (λ ws. set ws w value) held_words)
+            ∙ ap (λ s. set s.frames i (set (get_or v.frames i []) w value)) see
 
   -- a frame is pushed
   module _ (spare : 0 < v.spare) where

@@ -1,9 +1,10 @@
 -- A row in which frames come first and empty places follow, and what its frames are.
 use Rattle.std.proofs.Common.{◌≡◌, ℕ, zero, suc, ◌<◌, ◌≤◌, List, [], ◌∷◌, ◌++◌, length, take, replicate, set, get_or}
 use Rattle.std.proofs.Common.{Option, Some, None, refl, sym, ap, arith}
-use Rattle.std.proofs.lemmas.List.{length-take-le}
+use Rattle.std.proofs.lemmas.List.{length-take, length-take-le}
+use Rattle.std.proofs.Math.Seq.{take-set-lt}
 use Rattle.frame_stack.specs.declared.slot.Slot.{Slot}
-use Rattle.frame_stack.specs.Chunks.{words_in, IsSlot, slots_in, frames_in, AreSlots, somes}
+use Rattle.frame_stack.specs.Chunks.{words_in, with_word, IsSlot, slots_in, frames_in, AreSlots, somes}
 
 -- ---- rows
 
@@ -53,6 +54,13 @@ laid_pop (s ∷ []) n zero e = refl
 laid_pop (s ∷ t ∷ ss) n zero e = absurd (omega arith)
 laid_pop (s ∷ ss) n (suc m) e = ap (λ l. Some s ∷ l) (laid_pop ss n m (omega arith))
 
+-- a slot changes
+pub laid_set : (ss : List Slot) (r : List (Option Slot)) (i : ℕ) (s : Slot) → i < length ss
+    → set (somes ss ++ r) i (Some s) ≡ somes (set ss i s) ++ r
+laid_set [] r i s lt = absurd (omega arith)
+laid_set (t ∷ ss) r zero s lt = refl
+laid_set (t ∷ ss) r (suc i) s lt = ap (λ l. Some t ∷ l) (laid_set ss r i s (omega arith))
+
 -- ---- frames
 
 -- the frames of one more slot
@@ -65,6 +73,12 @@ pub frames_take : (ss : List Slot) (m : ℕ) → frames_in (take m ss) ≡ take 
 frames_take ss zero = refl
 frames_take [] (suc m) = refl
 frames_take (s ∷ ss) (suc m) = ap (λ l. words_in s ∷ l) (frames_take ss m)
+
+-- the frames where a slot changes
+pub frames_set : (ss : List Slot) (i : ℕ) (s : Slot) → frames_in (set ss i s) ≡ set (frames_in ss) i (words_in s)
+frames_set [] i s = refl
+frames_set (t ∷ ss) zero s = refl
+frames_set (t ∷ ss) (suc i) s = ap (λ l. words_in t ∷ l) (frames_set ss i s)
 
 -- as many frames as slots
 pub frames_length : (ss : List Slot) → length (frames_in ss) ≡ length ss
@@ -97,6 +111,22 @@ slots_take ss zero h = tt
 slots_take [] (suc m) h = tt
 slots_take (s ∷ ss) (suc m) h = (h.0, slots_take ss m h.1)
 
+-- a slot changes
+pub slots_set : (ss : List Slot) (i : ℕ) (s : Slot) → AreSlots ss → IsSlot s → AreSlots (set ss i s)
+slots_set [] i s h x = tt
+slots_set (t ∷ ss) zero s h x = (x, h.1)
+slots_set (t ∷ ss) (suc i) s h x = (h.0, slots_set ss i s h.1 x)
+
 -- the first m of at least m slots are m
 pub take_long : (ss : List Slot) (m : ℕ) → m ≤ length ss → m ≡ length (take m ss)
 take_long ss m le = sym (length-take-le m ss le)
+
+-- ---- words
+
+-- a frame has at most the words that its header says
+pub word_below : (s : Slot) → length (words_in s) ≤ s.count
+word_below s = omega (arith, length-take s.count s.words)
+
+-- a change of a word in the slot is one in the frame
+pub word_set : (s : Slot) (w v : ℕ) → w < s.count → words_in (with_word s w v) ≡ set (words_in s) w v
+word_set s w v lt = take-set-lt s.count s.words w v lt

@@ -13,7 +13,7 @@ use Rattle.frame_stack.specs.Chunks.{Holds, IsStack}
 use Rattle.frame_stack.proofs.PlaceLemmas.{place_at, places_set, are_set, is_chunk_at, places_length, places_append}
 use Rattle.frame_stack.proofs.PlaceLemmas.{are_append}
 use Rattle.frame_stack.proofs.FrameLemmas.{somes_length, nones_length, slots_back, filled_at, empty_at, laid_push}
-use Rattle.frame_stack.proofs.FrameLemmas.{laid_pop, slots_push, slots_take}
+use Rattle.frame_stack.proofs.FrameLemmas.{laid_pop, laid_set, slots_push, slots_take, slots_set}
 
 -- chunks that hold these slots have no others
 pub same_slots : (cs : List Chunk) (ss : List Slot) (n : ℕ) → Holds cs ss n → slots_in (places cs) ≡ ss
@@ -95,6 +95,13 @@ module _ (cs : List Chunk) (ss : List Slot) (n : ℕ) (h : Holds cs ss n) where
       let more : suc n ≡ n + 1 = omega arith in
       changed m (omega arith) d e c None (take m ss) (n + 1) ok made
       (laid_pop ss n m q ∙ ap (λ k. somes (take m ss) ++ replicate k None) more) (slots_take ss m h.slots)
+
+  -- a frame changes
+  pub replaced : (i : ℕ) → i < length ss → (d c : Chunk) (s : Slot) → d ≡ get_or cs (i / 1024) d → IsChunk c
+      → c.cells.slots ≡ set d.cells.slots (i % 1024) (Some s) → IsSlot s → Holds (set cs (i / 1024) c) (set ss i s) n
+  replaced i lt d c s e ok made is =
+      changed i (omega arith) d e c (Some s) (set ss i s) n ok made (laid_set ss (replicate n None) i s lt)
+      (slots_set ss i s h.slots is)
 
   -- the slot of a frame
   pub slot_of : (i : ℕ) → i < length ss → (d : Chunk) → d ≡ get_or cs (i / 1024) d

@@ -1,5 +1,5 @@
 -- How frames lie in chunks: the places of all chunks are one row, in which the frames come first.
-use Rattle.std.specs.Prelude.{◌≡◌, ℕ, ◌≤◌, List, [], ◌∷◌, ◌++◌, length, take, replicate, Option, Some, None}
+use Rattle.std.specs.Prelude.{◌≡◌, ℕ, ◌≤◌, List, [], ◌∷◌, ◌++◌, length, take, replicate, slice_set, Option, Some, None}
 use Rattle.frame_stack.specs.declared.slot.Slot.{Slot}
 use Rattle.frame_stack.specs.declared.chunk.Chunk.{Chunk}
 
@@ -10,6 +10,10 @@ words_in s = take s.count s.words
 -- the header says from 1 to 7 words
 abbrev pub IsSlot : Slot → Type 0
 IsSlot s = (1 ≤ s.count) × (s.count ≤ 7)
+
+-- the slot, with that value as its word w
+abbrev pub with_word : Slot → ℕ → ℕ → Slot
+with_word s w value = record s { words = slice_set s.words w value }
 
 -- the parts of a chunk belong together: 1,024 places at its pointer, and the right to give that block back
 pub record IsChunk (c : Chunk) : Type 0 where

@@ -18,6 +18,7 @@ ghost use Rattle.std.specs.Prelude.{
   length,
   ⊤,
 };
+ghost use Rattle.std.specs.Borrow.{sem};
 ghost use Rattle.std.specs.Vec.Ownership.{FitsInBlock};
 ghost use base.Fml.{ftrue};
 ghost use denote.RawPtr.{Ptr};
@@ -115,6 +116,8 @@ pub(crate) fn deallocate<T, A: Allocator>(
 }
 
 impl<T> Cells<T> {
+    ghost use Rattle.frame_stack.specs.Lends.{lends_slot};
+
     /// Puts a value into an empty place.
     pub(crate) fn write(&mut self, base: Base<T>, index: usize, item: T)
         requires { (base.ptr ≡ self.old.at) × (index < length self.old.slots) ×
@@ -141,5 +144,14 @@ impl<T> Cells<T> {
         ensures { get_or self.now.slots index None ≡ Some result.now }
     {
         unsafe { &*base.ptr.add(index) }
+    }
+
+    /// The value at a place, to be changed there.
+    pub(crate) fn get_mut(&mut self, base: Base<T>, index: usize) -> &mut T
+        requires { (base.ptr ≡ self.old.at) × IsFilled self.old.slots index }
+        ensures* writes_back { sem 𝓛 (lends_slot T.row self.entry index result) }
+        ensures value { get_or self.old.slots index None ≡ Some result.now }
+    {
+        unsafe { &mut *base.ptr.add(index) }
     }
 }

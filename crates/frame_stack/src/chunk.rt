@@ -1,6 +1,7 @@
 //! A chunk of 1,024 slots.
 ghost use Rattle.std.specs.Prelude.{◌≡◌, ◌<◌, None, Some, get_or, slice_set, IfOk};
-ghost use Rattle.frame_stack.specs.Chunks.{IsChunk, IsFree};
+ghost use Rattle.frame_stack.specs.declared.slot.Slot.{Slot as Frame};
+ghost use Rattle.frame_stack.specs.Chunks.{IsChunk, IsFree, with_word};
 ghost use Rattle.frame_stack.specs.Places.{IsFilled};
 ghost use Rattle.frame_stack.specs.declared.chunk.TheConstants.{CHUNK};
 
@@ -65,5 +66,19 @@ impl Chunk {
         ensures { get_or self.now.cells.slots place None ≡ Some result.now }
     {
         self.cells.get(self.base, place)
+    }
+
+    /// Changes a word of the frame at a place.
+    pub(crate) fn set_word(&mut self, place: usize, w: usize, value: u32)
+        requires chunk { IsChunk self.old }
+        requires place { place < CHUNK }
+        requires filled { IsFilled self.old.cells.slots place }
+        requires word { w < 7 }
+        ensures chunk { IsChunk self.new }
+        ensures slots { (s : Frame) → get_or self.old.cells.slots place None ≡ Some s →
+            self.new.cells.slots ≡
+            slice_set self.old.cells.slots place (Some (with_word s w value)) }
+    {
+        self.cells.get_mut(self.base, place).words[w] = value;
     }
 }

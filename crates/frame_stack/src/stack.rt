@@ -12,6 +12,7 @@ ghost use Rattle.std.specs.Prelude.{
   take,
   vec_len,
   slice_index_or,
+  slice_set,
   All,
   IsOk,
   IfOk,
@@ -149,6 +150,18 @@ impl FrameStack {
         ensures count { (1 ≤ length result.now) × (length result.now ≤ 7) }
     {
         self.chunks[i / CHUNK].slot(i % CHUNK).words()
+    }
+
+    /// Changes the word `w` of the frame `i`, which must have that word. The bottom frame and a
+    /// frame's first word are 0. It takes no memory.
+    pub fn set(&mut self, i: usize, w: usize, value: u32)
+        requires frame { i < length self.old.frames }
+        requires word { w < length (slice_index_or self.old.frames i []) }
+        ensures frames { self.new.frames ≡ slice_set self.old.frames i
+            (slice_set (slice_index_or self.old.frames i []) w value) }
+        ensures spare { self.new.spare ≡ self.old.spare }
+    {
+        self.chunks[i / CHUNK].set_word(i % CHUNK, w, value);
     }
 
     /// Takes memory until at least `n` more frames can be pushed. Frames that are there stay in

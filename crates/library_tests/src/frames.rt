@@ -61,6 +61,36 @@ fn frames_are_pushed_and_popped(rt: HostRuntime) {
     drop(stack);
 }
 
+/// Changes a word of a frame, where there is such a word.
+fn set(stack: &mut FrameStack, i: usize, w: usize, value: u32) {
+    if i < stack.len() && w < stack.at(i).len() {
+        stack.set(i, w, value);
+    }
+}
+
+/// A word of a frame that is changed, and the words of both frames then: a word that isn't there is
+/// passed over.
+const CHANGES: &[((usize, usize, u32), [&[u32]; 2])] = &[
+    ((0, 1, 5), [&[7, 5], &[9]]),
+    ((1, 0, u32::MAX), [&[7, 5], &[u32::MAX]]),
+    ((1, 1, 3), [&[7, 5], &[u32::MAX]]),
+];
+
+#[test]
+fn a_word_of_a_frame_is_changed(rt: HostRuntime) {
+    let mut stack = FrameStack::new(rt.alloc());
+    stack.reserve(2).expect(&rt, "memory");
+    push(&mut stack, &[7, 8]);
+    push(&mut stack, &[9]);
+    let spare = stack.spare();
+    for ((i, w, value), [first, second]) in CHANGES {
+        set(&mut stack, *i, *w, *value);
+        check_frames(&rt, &stack, 2, &[(0, first), (1, second)]);
+        check(&rt, value, &stack.spare(), &spare);
+    }
+    drop(stack);
+}
+
 /// Frames on both sides of the end of a chunk, and the top one.
 const NUMBERED: &[(usize, &[u32])] = &[
     (1023, &[1023, 1, 2, 3, 4, 5, 6]),

@@ -1,16 +1,9 @@
-use Rattle.std.specs.Prelude.{[], codes}
-use Rattle.c_file.specs.Source.{fits_text, number_is}
-use Rattle.c_file.proofs.PrintLemmas.{of_same, seven_printed}
+use Rattle.c_file.specs.Source.{fits_text}
+use Rattle.c_file.proofs.PrintLemmas.{three_printed}
 use Rattle.c_file.proofs.printing.print_fits.Goals as goal
 
 pub returns : goal.returns
 unfolding fits_text
 returns c =
-    seven_printed _ _ _ _ _ _ _ _ _ _ _ _ _ _ _ c.in_ok-print_of_chart.ensures
-    (of_same (number_is [] c.args.chart.now (codes "DEPTH == ")) _ _ _ _
-    c.in_ok-print_number_is.ensures c.from.ensures)
-    (of_same (number_is (codes ")\n    && (") c.args.chart.now (codes "STEPS == ")) _ _ _ _
-    c.in_ok-print_number_is-2.ensures c.from-2.ensures)
-    (of_same (number_is (codes ")\n    && (") c.args.chart.now (codes "OUTPUTS == ")) _ _ _ _
-    c.in_ok-print_number_is-3.ensures c.from-3.ensures)
-    c.in_ok-print_number_is-4.ensures c.in_ok-print_number_is-5.ensures c.in_ok-push_str.ensures.bytes
+    three_printed _ _ _ _ _ _ _ c.in_ok-print_sizes_fit.ensures c.in_ok-print_sum_numbers.ensures
+    c.in_ok-push_str.ensures.bytes

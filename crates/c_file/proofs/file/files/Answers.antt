@@ -1,4 +1,4 @@
-use Rattle.std.proofs.Common.{length}
+use Rattle.std.proofs.Common.{length, ◌∙◌}
 use Rattle.std.proofs.lemmas.Result.{IfOk-weaker}
 use Rattle.checked_chart.specs.Kept.{chart_of}
 use Rattle.code_language.specs.Code.{code_of}
@@ -6,30 +6,38 @@ use Rattle.c_functions.specs.Writer.{plans_of}
 use Rattle.c_functions.specs.Files.{shape_of}
 use Rattle.c_functions.specs.Starts.{file_of}
 use Rattle.c_expression_writer.specs.FileShapes.{tests_seen}
-use Rattle.c_file.proofs.SourceLemmas.{source_is}
-use Rattle.c_file.proofs.file.source.Goals as goal
+use Rattle.c_file.specs.Files.{IsMadeFor}
+use Rattle.c_file.proofs.SourceLemmas.{facts_hold, header_is, source_is}
+use Rattle.c_file.proofs.file.files.Goals as goal
 
 pub returns : goal.returns
 returns c =
     let w = c.in_ok-written.written in
     let is = c.in_ok-written.ensures in
-    IfOk-weaker c.printed_source.result _ _
-    (λ text printed. record {
+    let made : IsMadeFor (chart_of c.args.chart.now) w c.in_ok-made.made = c.in_ok-made.ensures in
+    let identity = c.args.identity in
+    IfOk-weaker c.printed_files.result _ _
+    (λ files printed. record {
       code = code_of w.code;
       tags = w.tags.items;
       origins = w.origins.items;
       tests = tests_seen w.tests;
       limits = w.limits;
       room = w.outputs;
+      written = printed.written;
+      facts = printed.facts;
       is_written = is.is_written;
+      limits_are = is.limits_are;
       sizes = is.sizes;
-      is_text = source_is c.in_ok-made.ensures _ printed;
+      hold = facts_hold made printed.written printed.facts printed.hold;
+      header_is = printed.header_is ∙ header_is made printed.facts identity;
+      source_is = printed.source_is ∙ source_is made printed.written printed.facts identity;
       runs = λ int s events moments small has given rules.
           c.loops_run_as_calls.ensures.runs (length (code_of w.code).procedures.procs)
           (shape_of (code_of w.code) (tests_seen w.tests) w.limits w.outputs)
           (file_of (code_of w.code) (tests_seen w.tests) w.limits w.outputs (plans_of (code_of w.code)))
           int s events moments
-          (c.files_of_code_that_serves_run_as_charts.ensures (chart_of c.args.chart.now) c.args.bounds
+          (c.files_of_code_that_serves_run_as_charts.ensures (chart_of c.args.chart.now) identity.bounds
           (code_of w.code) (tests_seen w.tests) w.limits w.outputs c.shape.ensures.valid
           is.fits is.serves is.after int s events moments small has given rules);
-    }) c.printed_source.ensures
+    }) c.printed_files.ensures

@@ -5,7 +5,7 @@ use Rattle.c_program.specs.Parser.{program_app}
 use Rattle.c_program.specs.Asked.{command_found}
 use Rattle.command_words.proofs.ParseLemmas.{are_utf8, found_is, none_is}
 use Rattle.c_program.proofs.Agreement.{agreed, is_free, is_plain}
-use Rattle.c_program.proofs.words.command_from.Goals as goal
+use Rattle.c_program.proofs.words.parsed.Goals as goal
 
 -- the parse found a command
 pub returns-in-Ok-try_get_matches_from : goal.returns-in-Ok-try_get_matches_from

@@ -3,27 +3,32 @@ use Rattle.chart_tree.specs.declared.limits.TheConstants.{CHART_TEXT_LIMIT}
 use Rattle.checked_chart.specs.Kept.{chart_of}
 use Rattle.commands.specs.Accepted.{RefusesAccepted}
 use Rattle.commands.proofs.ReadingLemmas.{ran_out_after}
-use Rattle.c_program.proofs.header.read_header.Goals as goal
+use Rattle.c_program.proofs.files.read_file.Goals as goal
 
 -- nothing comes of the file
-pub returns-in_err-chart : goal.returns-in_err-chart
-returns-in_err-chart g c =
+pub returns-in_err-summed : goal.returns-in_err-summed
+returns-in_err-summed g c =
     let p = err_from_is_err_and c.from_residual.result c.from_residual.ensures.1 in
-    rw (p.1, p.2) c.in_err-chart.ensures
+    rw (p.1, p.2) c.in_err-summed.ensures
 
 -- the text is that of the chart
 pub returns-in-Ok : goal.returns-in-Ok
 returns-in-Ok g c =
-    let given = c.in_ok-chart.ensures in
+    let given = c.in_ok-summed.ensures in
     record {
       text = given.text;
       read = given.read;
-      means = record { chart = chart_of c.in_ok-chart.chart; accepted = given.means; of_c = c.in-Ok.ensures };
+      means = record {
+        chart = chart_of c.in_ok-summed.summed.chart;
+        sum = c.in_ok-summed.summed.sum;
+        summed = given.means;
+        of_c = c.in-Ok.ensures;
+      };
     }
 
 -- memory runs out
 pub returns : goal.returns
 returns g c =
-    let given = c.in_ok-chart.ensures in
+    let given = c.in_ok-summed.ensures in
     ran_out_after CHART_TEXT_LIMIT RefusesAccepted _ _ c.args.name.now given.text given.read
-    given.means.read.spells.short
+    given.means.accepted.read.spells.short

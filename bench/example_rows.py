@@ -32,7 +32,8 @@ def path_of(name):
 def build(name, chart_to_c, folder):
     """Compiles the two programs of an example by gcc, and gives the name of its chart and the words that begin each command."""
     text = chart_c.Kept(path_of(name)).read('chart')
-    table, chart = chart_c.table_of(text)
+    table, checked = chart_c.table_of(text)
+    chart = checked.root.name
     driver = chart_c.compile_driver(folder, 'gcc', FLAGS)
     made, by_hand = (os.path.join(folder, each) for each in ('made', 'by_hand'))
     for each in (made, by_hand):

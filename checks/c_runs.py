@@ -25,7 +25,7 @@ import c_subset
 import chart_rules as rules
 import random_charts
 from c_subset import ENDINGS, Run, ending
-from chart_c import Failed, Kept, field_of, make_c, state_name
+from chart_c import Failed, Kept, c_name, field_of, make_c, state_name
 from chart_check import check_chart
 from programs import Ended, differences, keep_files, parser, results_of
 from random_compiled import DEFAULT_BOUNDS, bounds_of
@@ -38,7 +38,7 @@ class Machine:
     """The C of a chart and its struct, in the form of the rules of chart_rules.py: what it shows is the world."""
 
     def __init__(self, chart, file):
-        self.chart, self.name, self.file, self.run = chart, chart.root.name, file, Run(file)
+        self.chart, self.name, self.file, self.run = chart, c_name(chart), file, Run(file)
         self.active, self.values, self.outputs = set(), {}, []
 
     def met(self, case):

@@ -59,7 +59,13 @@ WIDE = {'flow_int128': '__extension__ typedef __int128 flow_int128;',
 INCLUDE = re.compile('#include <(limits|stdbool|stdint)[.]h>')
 OWN_HEADER = re.compile('#include "([A-Za-z0-9_]+)[.]h"')
 GUARD = re.compile('#(?:ifndef|define) ([A-Za-z][A-Za-z0-9_]*_H)')
-INT_TEST = ['#if UINT_MAX != 4294967295u', '#error "int must have 32 bits"', '#endif']
+INT_TEST = ['#if UINT_MAX != 4294967295u || INT_MAX != 2147483647 || INT_MIN != -2147483647 - 1',
+            '#error "int must have 32 bits, and two\'s complement"', '#endif']
+WIDE_TEST = ['#if !defined(__SIZEOF_INT128__)', '#error "the source computes in 128 bits: it needs __int128"', '#endif']
+RECURSION = re.compile('#if !defined[(]([A-Za-z][A-Za-z0-9_]*_MAY_RECURSE)[)]')
+TOLD = re.compile('#define ([A-Za-z][A-Za-z0-9_]*_MAY_RECURSE)')
+RECURSION_ERROR = '#error "functions may call themselves: where they may, define %s"'
+CPLUSPLUS = re.compile('#ifdef __cplusplus\n(?:extern "C" {|})\n#endif\n')     # a compiler of C passes over such lines
 
 Type = namedtuple('Type', 'kind bits')                       # the kind is 'signed', 'unsigned' or 'bool'
 Value = namedtuple('Value', 'number type')
@@ -206,6 +212,7 @@ MARKS = '+ - * / % & | == != < <= > >= && ||'.split()
 def tokens(text, headers, name=''):
     """The words of a text, without spaces and comments, and with those of the headers of the same program in their place."""
     found, place, number = [], 0, 1
+    text = CPLUSPLUS.sub('\n\n\n', text)
     for strange in ('\\', '??'):
         if strange in text:
             raise Refused(text[:text.index(strange)].count('\n') + 1, 'no word has ' + strange)
@@ -227,17 +234,33 @@ class Directives:
     """What the lines that begin with `#` say."""
 
     def __init__(self, lines, int_bits):
-        self.included, self.int_bits, self.open = set(), int_bits, None
+        self.included, self.told, self.int_bits, self.open = set(), set(), int_bits, None
         lines, line = list(lines), None
         while lines:
             line = lines.pop(0)
-            if [each.text for each in [line] + lines[:2]] == INT_TEST:
+            three = [each.text for each in [line] + lines[:2]]
+            if three == INT_TEST:
                 self.test_int(line.line)
+                del lines[:2]
+            elif three == WIDE_TEST:
+                del lines[:2]
+            elif self.is_about_recursion(three):
+                self.test_recursion(line)
                 del lines[:2]
             else:
                 self.directive(line)
         if self.open:
             raise Refused(line.line, '#endif is missing')
+
+    @staticmethod
+    def is_about_recursion(three):
+        """Whether these lines ask that it is told that functions may call themselves."""
+        name = RECURSION.fullmatch(three[0])
+        return bool(name) and three[1:] == [RECURSION_ERROR % name[1], '#endif']
+
+    def test_recursion(self, token):
+        if RECURSION.fullmatch(token.text)[1] not in self.told:
+            raise Refused(token.line, 'it is not told that functions may call themselves')
 
     def test_int(self, line):
         if 'limits' not in self.included:
@@ -253,6 +276,8 @@ class Directives:
             self.open = GUARD.fullmatch(text)[1]
         elif text == '#define %s' % self.open:
             pass
+        elif TOLD.fullmatch(text):
+            self.told.add(TOLD.fullmatch(text)[1])
         elif text == '#endif' and self.open:
             self.open = None
         else:
@@ -269,7 +294,7 @@ class Reader:
         self.tokens = [each for each in words if each.kind != 'directive'] + [Token('end', 'the end', last)]
         self.place, self.widths, self.included = 0, Widths(int_bits), directives.included
         self.types, self.file, self.struct = {}, File({}, {}, {}, {}), None
-        self.prototypes, self.locals, self.with_m = {}, {}, False
+        self.prototypes, self.locals, self.with_m, self.wide_names = {}, {}, False, {}
 
     # -- single words
 
@@ -308,20 +333,22 @@ class Reader:
     def new_name(self, taken, what):
         """A name that isn't a word of C and isn't taken."""
         name = self.next('name', 'the name of a ' + what)
-        if name in KEYWORDS or name in TYPES or name.startswith('_'):
+        if name in KEYWORDS or name in TYPES or name in self.wide_names or name.startswith('_'):
             self.refuse('`%s` cannot be a name' % name)
         if name in taken:
             self.refuse('the name `%s` is taken' % name)
         return name
 
     def type_ahead(self):
-        return self.tokens[self.place].text in TYPES
+        text = self.tokens[self.place].text
+        return text in TYPES or text in self.wide_names
 
     def type(self):
         name = self.next('name', 'a type')
-        if name not in self.types:
+        own = self.wide_names.get(name, name)
+        if own not in self.types:
             self.refuse('`%s` is no type of this file' % name)
-        return TYPES[name]
+        return TYPES[own]
 
     def count(self):
         text = self.next('number', 'a number of elements')
@@ -390,10 +417,15 @@ class Reader:
         return self.file.constants[name] == int(text)
 
     def wide_types(self):
-        """The lines that name the types of 128 bits."""
-        for name, line in WIDE.items():
-            if name not in self.types and self.take(line.replace(';', ' ;')):
-                self.types.add(name)
+        """The lines that name the types of 128 bits, each with any name."""
+        while self.take('__extension__ typedef'):
+            own = 'flow_uint128' if self.take('unsigned') else 'flow_int128'
+            self.want('__int128')
+            if own in self.types:
+                self.refuse('the type has a name')
+            self.wide_names[self.next('name', 'the name of a type')] = own
+            self.types.add(own)
+            self.want(';')
 
     def prototype_or_function(self):
         head = self.head()
@@ -442,7 +474,7 @@ class Reader:
         type_ = self.type()
         name = self.new_name(self.file.functions, 'function')
         self.want('(')
-        with_m, parameters = self.take('%s * m' % self.struct), {}
+        with_m, parameters = self.take('const %s * m' % self.struct) or self.take('%s * m' % self.struct), {}
         while not self.ahead(')'):
             if with_m or parameters:
                 self.want(',')

@@ -17,6 +17,7 @@ The program ends with status 1 where anything differs, where a compiler has a wa
 The driver shows of the struct what the page docs/C.md offers to a user: the fields of data, the events that were emitted, the tests of
 active states, and the fault. The struct has no byte 0 before the start."""
 import os
+import re
 import sys
 import tempfile
 from concurrent.futures import ThreadPoolExecutor
@@ -43,6 +44,18 @@ def state_name(state):
     return state.path().replace('_', '__').replace('/', '_')
 
 
+def is_taken(name):
+    """Whether more stands before a chart's name in C: with it a name of the library could arise, or that of a field."""
+    return bool(re.match('''(?:va|LC|SIG|FE|FP|in|out|loc)$|flow_|(?:is|to|str|mem|wcs)[a-z]|E[0-9A-Z]|(?:PRI|SCN)[a-zX]
+        |(?:SIG|LC_|SIG_|FE_|FP_)[A-Z]|int|uint|INT|UINT''', name, re.X))
+
+
+def c_name(chart):
+    """The name of a chart in C, with which each name at file scope begins."""
+    name = chart.root.name
+    return ('flow__' if is_taken(name) else '') + name.replace('_', '__')
+
+
 def field_of(datum):
     return '%s_%s' % ({'input': 'in', 'output': 'out', 'local': 'loc'}[datum.kind], datum.name)
 
@@ -59,7 +72,7 @@ def datum_row(datum):
 
 def event_rows(chart):
     """The events in the table, but the local ones."""
-    name = chart.root.name
+    name = c_name(chart)
     for event in chart.events:
         if event.kind != 'local':
             yield '    {"%s", %s_E_%s, %s},' % (event.name, name, event.name, 'true' if event.kind == 'input' else 'false')
@@ -68,8 +81,8 @@ def event_rows(chart):
 
 def table_lines(chart):
     """The lines of the table of a checked chart."""
-    name = chart.root.name
-    yield '#include "%s.h"' % name
+    name = c_name(chart)
+    yield '#include "%s.h"' % chart.root.name
     yield '#include "driver.h"'
     yield '#include <stddef.h>'
     yield '#include <string.h>'
@@ -109,9 +122,9 @@ def table_lines(chart):
 
 
 def table_of(text):
-    """The table of a chart text, and the name of the chart."""
+    """The table of a chart text, and the chart."""
     chart = check_chart(text)
-    return ''.join(line + '\n' for line in table_lines(chart)), chart.root.name
+    return ''.join(line + '\n' for line in table_lines(chart)), chart
 
 
 # ---- making and compiling
@@ -135,13 +148,15 @@ def write(folder, name, content):
 def make_c(program, text, folder, options=()):
     """Writes the header, the source and the table of a chart to a folder, and gives the names of the two sources."""
     write(folder, 'chart', text)
-    table, name = table_of(text)
+    table, chart = table_of(text)
+    name = chart.root.name
     header, source = (output_of([program, word, *options, 'chart'], folder) for word in ('header', 'source'))
     if ('__int128' in header) != ('__int128' in source):
         raise Failed('the header of %s says otherwise than its source whether 128 bits are needed' % name)
+    may_recurse = '#define %s_MAY_RECURSE\n' % c_name(chart)
     write(folder, '%s.h' % name, header)
-    write(folder, '%s.c' % name, source)
-    write(folder, 'table_of_%s.c' % name, table)
+    write(folder, '%s.c' % name, may_recurse + source)
+    write(folder, 'table_of_%s.c' % name, may_recurse + table)
     return ['%s.c' % name, 'table_of_%s.c' % name]
 
 

@@ -470,10 +470,10 @@ our_words K =
     all_both IsOurs (function_words K.procs) (fixed_words ++ (ofs ++ ins))
     (all_both IsOurs (numbered_labels (codes "p") K.procs) other_words
     (all_map IsOurs (λ k. codes "p" ++ decimal k) (range_with_len 0 K.procs) (λ k. refl))
-    (refl, (refl, (refl, (refl, (refl, (refl, (refl, (refl, (refl, (refl, tt)))))))))))
+    (refl, (refl, (refl, (refl, (refl, (refl, (refl, (refl, (refl, (refl, (refl, tt))))))))))))
     (all_both IsOurs fixed_words (ofs ++ ins)
     (refl, (refl, (refl, (refl, (refl, (refl, (refl, (refl, (refl, (refl, (refl, (refl, (refl, (refl, (refl, (refl,
-    tt))))))))))))))))
+    (refl, (refl, (refl, (refl, (refl, tt)))))))))))))))))))))
     (all_both IsOurs ofs ins (all_events IsOurs K.names.events (λ name. refl))
     (all_map IsOurs (test_word K.tree K.names) (range_with_len 1 (state_count K.tree - 1)) (λ x. refl))))
 

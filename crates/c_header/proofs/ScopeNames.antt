@@ -88,59 +88,13 @@ procedures procs = all_map (IsKind 1) (λ k. codes "p" ++ decimal k) (range_with
 
 others : AllByRecursion (IsKind 0) other_words
 unfolding kind_of
-others = (refl, (refl, (refl, (refl, (refl, (refl, (refl, (refl, (refl, (refl, tt))))))))))
+others = (refl, (refl, (refl, (refl, (refl, (refl, (refl, (refl, (refl, (refl, (refl, tt)))))))))))
 
 fixed : AllByRecursion (IsKind 4) fixed_words
 unfolding kind_of
-fixed = (
-  refl,
-  (
-    refl,
-    (
-      refl,
-      (
-        refl,
-        (
-          refl,
-          (
-            refl,
-            (
-              refl,
-              (
-                refl,
-                (
-                  refl,
-                  (
-                    refl,
-                    (
-                      refl,
-                      (
-                        refl,
-                        (
-                          refl,
-                          (
-                            refl,
-                            (
-                              refl,
-                              (
-                                refl,
-                                (refl, (refl, (refl, (refl, tt)))),
-                              ),
-                            ),
-                          ),
-                        ),
-                      ),
-                    ),
-                  ),
-                ),
-              ),
-            ),
-          ),
-        ),
-      ),
-    ),
-  ),
-)
+fixed =
+    (refl, (refl, (refl, (refl, (refl, (refl, (refl, (refl, (refl, (refl, (refl, (refl, (refl, (refl, (refl, (refl,
+    (refl, (refl, (refl, (refl, (refl, tt)))))))))))))))))))))
 
 events : (es : List EventDecl) → AllByRecursion (IsKind 2) (event_words es)
 unfolding kind_of
@@ -225,9 +179,9 @@ scope_words_distinct K h few =
 procedure_words : (procs : ℕ) → AllByRecursion IsWord (function_words procs)
 unfolding weight
 procedure_words procs = all_from IsWord (function_words procs) (λ i lt. record {
-  heavy = all_at (λ word. 1 ≤ weight word) (function_words procs) i (all_heavy procs) lt;
-  free = words_of_functions_free procs i lt;
-})
+      heavy = all_at (λ word. 1 ≤ weight word) (function_words procs) i (all_heavy procs) lt;
+      free = words_of_functions_free procs i lt;
+    })
   where
     all_heavy : (procs : ℕ) → AllByRecursion (λ word. 1 ≤ weight word) (function_words procs)
     all_heavy procs = all_both (λ word. 1 ≤ weight word) (numbered_labels (codes "p") procs) other_words

@@ -107,7 +107,8 @@ data_plain (v ∷ vars) = (datum_plain v, data_plain vars)
 counter_comments : Bool → List (List ℕ)
 counter_comments counted =
     used_words counted ∷ codes "how many events it emitted" ∷ codes "how many entries of note[] are in use"
-    ∷ codes "its fault" ∷ codes "the datum that overflowed, by its number from 0" ∷ []
+    ∷ codes "its fault" ∷ codes "the datum that overflowed, by its number from 0"
+    ∷ codes "whether a run goes on: 0 before it and after a fault" ∷ []
 
 counter_lines : (L : Labels) (counted : Bool) (f : ℕ)
     → counters_text L counted f ≡ lines_from L f (counter_comments counted)
@@ -116,8 +117,9 @@ counter_lines L counted f =
     let two : f + 2 ≡ f + 1 + 1 = omega arith in
     let three : f + 3 ≡ f + 1 + 1 + 1 = omega arith in
     let four : f + 4 ≡ f + 1 + 1 + 1 + 1 = omega arith in
-    let last : List ℕ = codes "the datum that overflowed, by its number from 0" in
-    rw (two, three, four, append-nil (field_line L (f + 1 + 1 + 1 + 1) last)) refl
+    let five : f + 5 ≡ f + 1 + 1 + 1 + 1 + 1 = omega arith in
+    let last : List ℕ = codes "whether a run goes on: 0 before it and after a fault" in
+    rw (two, three, four, five, append-nil (field_line L (f + 1 + 1 + 1 + 1 + 1) last)) refl
 
 counters_plain : (counted : Bool) → AllByRecursion IsPlain (counter_comments counted)
 unfolding counter_comments
@@ -217,18 +219,18 @@ module _ (chart : List ℕ) (K : Shape) (tree : IsTree K.tree) where
   bits_plain x = tested (codes "bits of the other states") refl
 
   active_line : (p : ℕ) → active_field chart labels K p
-      ≡ field_line labels (length K.names.vars + 5 + or_rank K.tree p) (active_comment p)
+      ≡ field_line labels (length K.names.vars + 6 + or_rank K.tree p) (active_comment p)
   unfolding active_field active_comment
   active_line p =
-      ap (λ (t : List ℕ). field_start labels (length K.names.vars + 5 + or_rank K.tree p)
+      ap (λ (t : List ℕ). field_start labels (length K.names.vars + 6 + or_rank K.tree p)
       ++ (codes "the active child of " ++ t))
       (sym (append_assoc (place_text chart K.tree K.names p) (children_text K p) (codes " */\n")))
 
   last_line : (p : ℕ) → last_field chart labels K p
-      ≡ field_line labels (length K.names.vars + 5 + or_count K.tree + or_rank K.tree p) (last_comment p)
+      ≡ field_line labels (length K.names.vars + 6 + or_count K.tree + or_rank K.tree p) (last_comment p)
   unfolding last_field last_comment
   last_line p =
-      ap (λ (t : List ℕ). field_start labels (length K.names.vars + 5 + or_count K.tree + or_rank K.tree p)
+      ap (λ (t : List ℕ). field_start labels (length K.names.vars + 6 + or_count K.tree + or_rank K.tree p)
       ++ (codes "the child that " ++ t))
       (sym (append_assoc (place_text chart K.tree K.names p) (codes " remembers") (codes " */\n")))
 
@@ -248,10 +250,10 @@ module _ (chart : List ℕ) (K : Shape) (tree : IsTree K.tree) where
   actives = comments_below labels 0 has_child (or_rank K.tree) active_comment (active_field chart labels K)
       (state_count K.tree)
 
-  active_lines : (states_text chart labels K Active ≡ lines_from labels (length K.names.vars + 5) actives)
+  active_lines : (states_text chart labels K Active ≡ lines_from labels (length K.names.vars + 6) actives)
       × (length actives ≡ or_rank K.tree (state_count K.tree))
   unfolding states_text
-  active_lines = lines_below labels (length K.names.vars + 5) has_child (or_rank K.tree) active_comment
+  active_lines = lines_below labels (length K.names.vars + 6) has_child (or_rank K.tree) active_comment
       (active_field chart labels K) (state_count K.tree) (state_count K.tree) (omega arith) (record {
         none = rank-none K.tree;
         more = more_ors;
@@ -265,10 +267,10 @@ module _ (chart : List ℕ) (K : Shape) (tree : IsTree K.tree) where
       (state_count K.tree)
 
   last_lines : (states_text chart labels K Remembered
-      ≡ lines_from labels (length K.names.vars + 5 + or_count K.tree) lasts)
+      ≡ lines_from labels (length K.names.vars + 6 + or_count K.tree) lasts)
       × (length lasts ≡ or_rank K.tree (state_count K.tree))
   unfolding states_text
-  last_lines = lines_below labels (length K.names.vars + 5 + or_count K.tree) has_child (or_rank K.tree) last_comment
+  last_lines = lines_below labels (length K.names.vars + 6 + or_count K.tree) has_child (or_rank K.tree) last_comment
       (last_field chart labels K) (state_count K.tree) (state_count K.tree) (omega arith) (record {
         none = rank-none K.tree;
         more = more_ors;
@@ -278,7 +280,7 @@ module _ (chart : List ℕ) (K : Shape) (tree : IsTree K.tree) where
 
   -- words of bits
   abbrev first_word : ℕ
-  first_word = length K.names.vars + 5 + or_count K.tree + or_count K.tree
+  first_word = length K.names.vars + 6 + or_count K.tree + or_count K.tree
 
   word_text : ℕ → List ℕ
   word_text x = field_line labels (first_word + x / 32) (codes "bits of the other states")
@@ -340,18 +342,18 @@ module _ (chart : List ℕ) (K : Shape) (tree : IsTree K.tree) where
   ors_counted : or_rank K.tree (state_count K.tree) ≡ or_count K.tree
   ors_counted = rank-all K.tree (state_count K.tree) (omega (arith, tree.same_length))
 
-  values_size : length value_comments ≡ length K.names.vars + 5
+  values_size : length value_comments ≡ length K.names.vars + 6
   unfolding counter_comments
   values_size = length-append (map datum_comment K.names.vars) (counter_comments K.tests.steps)
       ∙ omega (arith, length-map K.names.vars datum_comment)
 
-  state_lines : states_fields chart labels K ≡ lines_from labels (length K.names.vars + 5) (actives ++ (lasts ++ words))
+  state_lines : states_fields chart labels K ≡ lines_from labels (length K.names.vars + 6) (actives ++ (lasts ++ words))
   unfolding states_fields
   state_lines =
       let one = active_lines in
       let two = last_lines in
       let three = word_lines in
-      let first : ℕ = length K.names.vars + 5 in
+      let first : ℕ = length K.names.vars + 6 in
       ap (λ (t : List ℕ). t ++ (states_text chart labels K Remembered ++ states_text chart labels K Bits)) one.0
       ∙ ap (λ (t : List ℕ). lines_from labels first actives ++ (t ++ states_text chart labels K Bits)) two.0
       ∙ ap (λ (t : List ℕ). lines_from labels first actives ++ (lines_from labels (first + or_count K.tree) lasts ++ t))
@@ -363,7 +365,7 @@ module _ (chart : List ℕ) (K : Shape) (tree : IsTree K.tree) where
       (omega (arith, one.1, ors_counted)))
 
   fields_counted : length (field_types labels)
-      ≡ length K.names.vars + 5 + or_count K.tree + or_count K.tree + (state_count K.tree + 31) / 32
+      ≡ length K.names.vars + 6 + or_count K.tree + or_count K.tree + (state_count K.tree + 31) / 32
   unfolding field_types
   fields_counted =
       let data_of = map (λ (v : Var). field_type v.sort) K.names.vars in
@@ -371,8 +373,8 @@ module _ (chart : List ℕ) (K : Shape) (tree : IsTree K.tree) where
       let bits = replicate ((state_count K.tree + 31) / 32) (Unsigned W32) in
       omega (
         arith,
-        length-append data_of (replicate 5 (Unsigned W32) ++ (numbers ++ bits)),
-        length-append (replicate 5 (Unsigned W32)) (numbers ++ bits),
+        length-append data_of (replicate 6 (Unsigned W32) ++ (numbers ++ bits)),
+        length-append (replicate 6 (Unsigned W32)) (numbers ++ bits),
         length-append numbers bits,
         length-map K.names.vars (λ (v : Var). field_type v.sort),
         length-replicate (or_count K.tree + or_count K.tree) (Unsigned W16),
@@ -402,7 +404,7 @@ module _ (chart : List ℕ) (K : Shape) (tree : IsTree K.tree) where
   field_lines =
       ap (λ (t : List ℕ). t ++ states_fields chart labels K) value_lines
       ∙ ap (λ (t : List ℕ). lines_from labels 0 value_comments ++ t) state_lines
-      ∙ sym (lines-append labels 0 (length K.names.vars + 5) value_comments (actives ++ (lasts ++ words))
+      ∙ sym (lines-append labels 0 (length K.names.vars + 6) value_comments (actives ++ (lasts ++ words))
       (omega (arith, values_size)))
       ∙ lines_are labels all_comments 0 (omega (arith, comments_counted)) (names_of_fields labels)
       ∙ ap (λ (ts : List CType). members_text chart ts (field_labels labels) all_comments) (types_of_fields chart K)

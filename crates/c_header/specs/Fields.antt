@@ -68,7 +68,8 @@ counters_text L counted f =
     ++ (field_line L (f + 1) (codes "how many events it emitted")
     ++ (field_line L (f + 2) (codes "how many entries of note[] are in use")
     ++ (field_line L (f + 3) (codes "its fault")
-    ++ field_line L (f + 4) (codes "the datum that overflowed, by its number from 0"))))
+    ++ (field_line L (f + 4) (codes "the datum that overflowed, by its number from 0")
+    ++ field_line L (f + 5) (codes "whether a run goes on: 0 before it and after a fault")))))
 
 -- ---- states
 

@@ -9,7 +9,8 @@ use Rattle.actions.specs.declared.names.EventKind.{EventKind}
 use Rattle.actions.specs.declared.names.EventKind.TheVariants as event_kinds
 use Rattle.c_names.specs.Stems.{guard_of_chart, name_of_chart}
 use Rattle.c_functions.specs.Layout.{on_c}
-use Rattle.c_functions.specs.Plans.{Shape, layout, used_field, fault_number, start_function, react_function}
+use Rattle.c_functions.specs.Plans.{Shape, layout, used_field, fault_number, refused_number, init_function}
+use Rattle.c_functions.specs.Plans.{start_function, react_function}
 use Rattle.c_text.specs.declared.kinds.Kind.TheVariants.{Outside}
 use Rattle.c_text.specs.Labels.{Labels, labels_for}
 use Rattle.c_text.specs.Expressions.{bare}
@@ -36,13 +37,13 @@ named_text front chart back = front ++ name_of_chart chart back
 -- what an engineer has to know
 unfoldable pub usage_text : List ℕ → List ℕ
 usage_text chart =
-    codes "\n   All memory is one struct, which the caller owns. Before each event store the inputs\n"
-    ++ (codes "   (in_..). After it read the outputs (out_..), the events that were emitted (out[0] to\n"
-    ++ (codes "   out[outs - 1]) and which states are active. Each call returns whether it ended\n"
-    ++ (codes "   without a fault. After a fault, which fault and fault_datum tell, the run is over:\n"
-    ++ (named_text (codes "   the next call is ") chart
-    (codes "start. An input has to lie in the range of its type, which\n")
-    ++ (codes "   stands beside it. Local data (loc_..) may be read. All other fields belong to the\n"
+    codes "\n   All memory is one struct, which the caller owns. Before the start and before each event\n"
+    ++ (codes "   store the inputs (in_..). After it read the outputs (out_..), the events that were\n"
+    ++ (codes "   emitted (out[0] to out[outs - 1]) and which states are active. Each call returns whether\n"
+    ++ (codes "   it ended without a fault. After a fault, which fault and fault_datum tell, the run is\n"
+    ++ (named_text (codes "   over: the next call is ") chart
+    (codes "init. An input has to lie in the range of its type,\n")
+    ++ (codes "   which stands beside it. Local data (loc_..) may be read. All other fields belong to the\n"
     ++ codes "   chart alone. */\n")))))
 
 -- a line with the name that is defined where the header was read
@@ -106,7 +107,8 @@ faults_text chart =
     ++ (define_line chart (codes "FAULT_") (codes "DEPTH") (fault_number (Some faults.Depth))
     ++ (define_line chart (codes "FAULT_") (codes "STEPS") (fault_number (Some faults.Steps))
     ++ (define_line chart (codes "FAULT_") (codes "OVERFLOW") (fault_number (Some (faults.Overflow 0)))
-    ++ define_line chart (codes "FAULT_") (codes "ZERO") (fault_number (Some faults.Zero))))))
+    ++ (define_line chart (codes "FAULT_") (codes "ZERO") (fault_number (Some faults.Zero))
+    ++ define_line chart (codes "FAULT_") (codes "EVENT") refused_number)))))
 
 -- the bounds, and how many entries the arrays have
 unfoldable pub bounds_text : List ℕ → Bounds → ℕ → ℕ → List ℕ
@@ -132,11 +134,11 @@ calls_number None = 0
 
 -- functions may call themselves only where the compiler is told that they may
 abbrev pub recursion_text : List ℕ → Option ℕ → List ℕ
-recursion_text chart (Some most) = codes "\n"
+recursion_text chart (Some most) = []
 recursion_text chart None =
     named_text (codes "#if !defined(") chart (codes "MAY_RECURSE)\n")
     ++ named_text (codes "#error \"functions may call themselves: where they may, define ") chart
-    (codes "MAY_RECURSE\"\n#endif\n\n")
+    (codes "MAY_RECURSE\"\n#endif\n")
 
 -- how many functions are open at once at most
 unfoldable pub calls_text : List ℕ → Option ℕ → List ℕ
@@ -199,15 +201,25 @@ struct_text chart L K =
     codes "typedef struct {\n" ++ (values_fields L K
     ++ (states_fields chart L K ++ (rows_text K ++ named_text (codes "} ") chart (codes "chart;\n\n"))))
 
+-- the call that stores the first values
+unfoldable pub init_text : Labels → Shape → List ℕ
+init_text L K =
+    codes "/* Stores the first values of all data; nothing is active. Inputs that are stored after it hold\n"
+    ++ (codes "   at the start. */\n" ++ prototype_text L (init_function K))
+
 -- the call that begins a run
-unfoldable pub start_text : Labels → Shape → List ℕ
-start_text L K = codes "/* Begins a run. */\n" ++ prototype_text L (start_function K)
+unfoldable pub start_text : List ℕ → Labels → Shape → List ℕ
+start_text chart L K =
+    named_text (codes "\n/* Begins the run: enters the chart. Returns false, too, and changes nothing, unless ") chart
+    (codes "init\n   was called since the last run began. */\n")
+    ++ prototype_text L (start_function K)
 
 -- the call for an event
 unfoldable pub react_text : List ℕ → Labels → Shape → List ℕ
 react_text chart L K =
-    named_text (codes "\n/* Takes an event: ") chart (codes "TICK or one of the input events. */\n")
-    ++ (prototype_text L (react_function K) ++ codes "\n")
+    named_text (codes "\n/* Takes an event: ") chart (codes "TICK or one of the input events; any other number is a fault.\n")
+    ++ (codes "   Returns false, too, and changes nothing, before the start and after a fault. */\n"
+    ++ (prototype_text L (react_function K) ++ codes "\n"))
 
 -- ---- the whole
 
@@ -231,7 +243,7 @@ end_text = codes "#ifdef __cplusplus\n}\n#endif\n\n#endif\n"
 unfoldable pub back_text : List ℕ → Labels → Shape → List ℕ
 back_text chart L K =
     struct_text chart L K
-    ++ (start_text L K ++ (react_text chart L K ++ (states_text chart L K Test ++ end_text)))
+    ++ (init_text L K ++ (start_text chart L K ++ (react_text chart L K ++ (states_text chart L K Test ++ end_text))))
 
 -- the header of a chart of that name, of whose source these facts hold, of this making
 unfoldable pub header_text : List ℕ → Shape → SourceFacts → Identity → List ℕ

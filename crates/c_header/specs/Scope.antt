@@ -45,9 +45,9 @@ test_words t n = map (test_word t n) (range_with_len 1 (state_count t - 1))
 abbrev pub fixed_words : List (List ℕ)
 fixed_words =
     codes "chart" ∷ codes "TICK" ∷ codes "FAULT_NONE" ∷ codes "FAULT_DEPTH" ∷ codes "FAULT_STEPS"
-    ∷ codes "FAULT_OVERFLOW" ∷ codes "FAULT_ZERO" ∷ codes "DEPTH" ∷ codes "STEPS" ∷ codes "OUTPUTS" ∷ codes "NOTES"
-    ∷ codes "CALLS" ∷ codes "SUM_0" ∷ codes "SUM_1" ∷ codes "SUM_2" ∷ codes "SUM_3" ∷ codes "MAY_RECURSE"
-    ∷ codes "header_fits" ∷ codes "int128" ∷ codes "uint128" ∷ []
+    ∷ codes "FAULT_OVERFLOW" ∷ codes "FAULT_ZERO" ∷ codes "FAULT_EVENT" ∷ codes "DEPTH" ∷ codes "STEPS"
+    ∷ codes "OUTPUTS" ∷ codes "NOTES" ∷ codes "CALLS" ∷ codes "SUM_0" ∷ codes "SUM_1" ∷ codes "SUM_2" ∷ codes "SUM_3"
+    ∷ codes "MAY_RECURSE" ∷ codes "header_fits" ∷ codes "int128" ∷ codes "uint128" ∷ []
 
 -- the words of all names at file scope: of functions, and others
 abbrev pub scope_words : Shape → List (List ℕ)

@@ -140,7 +140,7 @@ pub(crate) fn print_counters(
     counted: bool,
     first: u32,
 ) -> Result<(), AllocError>
-    requires { first + 4 < 2 ^ 32 }
+    requires { first + 5 < 2 ^ 32 }
     ensures { OnOk result (string_bytes out.new
         ≡ string_bytes out.old ++ spec.counters_text (labels_of labels.now) counted first) }
 {
@@ -158,6 +158,12 @@ pub(crate) fn print_counters(
         labels,
         first + 4,
         "the datum that overflowed, by its number from 0",
+    )?;
+    print_commented(
+        out,
+        labels,
+        first + 5,
+        "whether a run goes on: 0 before it and after a fault",
     )
 }
 

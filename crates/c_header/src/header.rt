@@ -9,7 +9,7 @@ use crate::fields::{print_counters, print_data, print_rows};
 use crate::identity::{Identity, print_identity, print_sums};
 use crate::numbers::{print_bounds, print_calls, print_events, print_faults};
 use crate::states::{About, print_states};
-use crate::words::{print_named, print_titled};
+use crate::words::print_named;
 use c_expression_writer::FileShape;
 use c_names::print_guard_name;
 use c_text::{Labels, print_prototype};
@@ -67,25 +67,25 @@ fn print_usage(out: &mut String, chart: &str) -> Result<(), AllocError>
         (string_bytes out.new ≡ string_bytes out.old ++ spec.usage_text chart.now) }
 {
     out.push_str(
-        "\n   All memory is one struct, which the caller owns. Before each event store the inputs\n",
+        "\n   All memory is one struct, which the caller owns. Before the start and before each event\n",
     )?;
     out.push_str(
-        "   (in_..). After it read the outputs (out_..), the events that were emitted (out[0] to\n",
+        "   store the inputs (in_..). After it read the outputs (out_..), the events that were\n",
     )?;
     out.push_str(
-        "   out[outs - 1]) and which states are active. Each call returns whether it ended\n",
+        "   emitted (out[0] to out[outs - 1]) and which states are active. Each call returns whether\n",
     )?;
     out.push_str(
-        "   without a fault. After a fault, which fault and fault_datum tell, the run is over:\n",
+        "   it ended without a fault. After a fault, which fault and fault_datum tell, the run is\n",
     )?;
     print_named(
         out,
-        "   the next call is ",
+        "   over: the next call is ",
         chart,
-        "start. An input has to lie in the range of its type, which\n",
+        "init. An input has to lie in the range of its type,\n",
     )?;
     out.push_str(
-        "   stands beside it. Local data (loc_..) may be read. All other fields belong to the\n",
+        "   which stands beside it. Local data (loc_..) may be read. All other fields belong to the\n",
     )?;
     out.push_str("   chart alone. */\n")
 }
@@ -164,7 +164,8 @@ fn print_back(
         ++ spec.back_text chart.now (labels_of labels.now) (shape_seen shape.now)) }
 {
     print_struct(alloc, out, chart, labels, shape)?;
-    print_start(out, labels, shape)?;
+    print_init(out, labels, shape)?;
+    print_start(out, chart, labels, shape)?;
     print_react(out, chart, labels, shape)?;
     print_states(alloc, out, chart, labels, shape, About::Test)?;
     out.push_str("#ifdef __cplusplus\n}\n#endif\n\n#endif\n")
@@ -220,17 +221,38 @@ fn print_states_fields(
     print_states(alloc, out, chart, labels, shape, About::Bits)
 }
 
-/// Appends the call that begins a run.
-#[tactic(auto, unfolding(crate::specs::Header::start_text))]
-fn print_start(
+/// Appends the call that stores the first values.
+#[tactic(auto, unfolding(crate::specs::Header::init_text))]
+fn print_init(
     out: &mut String,
     labels: &Labels<'_>,
     shape: &FileShape<'_>,
 ) -> Result<(), AllocError>
     ensures { OnOk result (string_bytes out.new ≡ string_bytes out.old
-        ++ spec.start_text (labels_of labels.now) (shape_seen shape.now)) }
+        ++ spec.init_text (labels_of labels.now) (shape_seen shape.now)) }
 {
-    out.push_str("/* Begins a run. */\n")?;
+    out.push_str("/* Stores the first values of all data; nothing is active. Inputs that are stored after it hold\n")?;
+    out.push_str("   at the start. */\n")?;
+    print_prototype(out, labels, shape.init_function())
+}
+
+/// Appends the call that begins a run.
+#[tactic(auto, unfolding(crate::specs::Header::start_text))]
+fn print_start(
+    out: &mut String,
+    chart: &str,
+    labels: &Labels<'_>,
+    shape: &FileShape<'_>,
+) -> Result<(), AllocError>
+    ensures { OnOk result (string_bytes out.new ≡ string_bytes out.old
+        ++ spec.start_text chart.now (labels_of labels.now) (shape_seen shape.now)) }
+{
+    print_named(
+        out,
+        "\n/* Begins the run: enters the chart. Returns false, too, and changes nothing, unless ",
+        chart,
+        "init\n   was called since the last run began. */\n",
+    )?;
     print_prototype(out, labels, shape.start_function())
 }
 
@@ -249,8 +271,9 @@ fn print_react(
         out,
         "\n/* Takes an event: ",
         chart,
-        "TICK or one of the input events. */\n",
+        "TICK or one of the input events; any other number is a fault.\n",
     )?;
+    out.push_str("   Returns false, too, and changes nothing, before the start and after a fault. */\n")?;
     print_prototype(out, labels, shape.react_function())?;
     out.push_str("\n")
 }

@@ -76,7 +76,8 @@ pub(crate) fn print_faults(out: &mut String, chart: &str) -> Result<(), AllocErr
     print_define(out, chart, "FAULT_", "DEPTH", 1)?;
     print_define(out, chart, "FAULT_", "STEPS", 2)?;
     print_define(out, chart, "FAULT_", "OVERFLOW", 3)?;
-    print_define(out, chart, "FAULT_", "ZERO", 4)
+    print_define(out, chart, "FAULT_", "ZERO", 4)?;
+    print_define(out, chart, "FAULT_", "EVENT", 5)
 }
 
 /// Appends the bounds, and how many entries `out[]` and `note[]` have.
@@ -127,10 +128,10 @@ fn print_recursion(out: &mut String, chart: &str, calls: Option<u32>) -> Result<
             out,
             "#error \"functions may call themselves: where they may, define ",
             chart,
-            "MAY_RECURSE\"\n#endif\n\n",
+            "MAY_RECURSE\"\n#endif\n",
         );
     };
-    out.push_str("\n")
+    Ok(())
 }
 
 /// What the header says above that number.

@@ -22,7 +22,8 @@ fixed_place word =
     (cond (bytes_eq word (codes "div16")) 4
     (cond (bytes_eq word (codes "div32")) 5
     (cond (bytes_eq word (codes "div64")) 6
-    (cond (bytes_eq word (codes "div128")) 7 (cond (bytes_eq word (codes "start")) 8 9))))))))
+    (cond (bytes_eq word (codes "div128")) 7
+    (cond (bytes_eq word (codes "init")) 8 (cond (bytes_eq word (codes "start")) 9 10)))))))))
 
 others_told : (i : ℕ) → i < length other_words → fixed_place (get_or other_words i []) ≡ i
 unfolding fixed_place
@@ -36,7 +37,8 @@ others_told (suc (suc (suc (suc (suc (suc zero)))))) within = refl
 others_told (suc (suc (suc (suc (suc (suc (suc zero))))))) within = refl
 others_told (suc (suc (suc (suc (suc (suc (suc (suc zero)))))))) within = refl
 others_told (suc (suc (suc (suc (suc (suc (suc (suc (suc zero))))))))) within = refl
-others_told (suc (suc (suc (suc (suc (suc (suc (suc (suc (suc i)))))))))) within = absurd (omega (arith, within))
+others_told (suc (suc (suc (suc (suc (suc (suc (suc (suc (suc zero)))))))))) within = refl
+others_told (suc (suc (suc (suc (suc (suc (suc (suc (suc (suc (suc i))))))))))) within = absurd (omega (arith, within))
 
 -- ---- all of them
 
@@ -56,7 +58,8 @@ other_word n j within e =
     first (suc (suc (suc (suc (suc (suc (suc zero))))))) within e = omega (arith, e)
     first (suc (suc (suc (suc (suc (suc (suc (suc zero)))))))) within e = omega (arith, e)
     first (suc (suc (suc (suc (suc (suc (suc (suc (suc zero))))))))) within e = omega (arith, e)
-    first (suc (suc (suc (suc (suc (suc (suc (suc (suc (suc j)))))))))) within e = omega (arith, within)
+    first (suc (suc (suc (suc (suc (suc (suc (suc (suc (suc zero)))))))))) within e = omega (arith, e)
+    first (suc (suc (suc (suc (suc (suc (suc (suc (suc (suc (suc j))))))))))) within e = omega (arith, within)
 
 procedures_other : (procs : ℕ) → AreOther (numbered_labels (codes "p") procs) other_words
 procedures_other procs i j li lj e =

@@ -17,7 +17,7 @@ use Rattle.c_functions.specs.Statements as plan
 use Rattle.c_functions.specs.Layout.{on_c, bare_c}
 use Rattle.c_functions.specs.Plans.{Shape, layout}
 use Rattle.c_functions.specs.Files.{procedure_c, home_function, noted_c, functions_c}
-use Rattle.c_functions.specs.Starts.{start_c, react_c}
+use Rattle.c_functions.specs.Starts.{init_c, start_c, react_c}
 use Rattle.c_text.specs.declared.kinds.Kind.{Kind}
 use Rattle.c_text.specs.declared.kinds.Kind.TheVariants.{Procedure, Home, Noted, Floor, Outside}
 use Rattle.c_text.specs.Labels.{Labels, labels_for, function_kind, other_kinds}
@@ -62,10 +62,10 @@ module _ (chart : List ℕ) (K : Shape) (bodies : ℕ → plan.Block) (p q : ℕ
       ∷ floor_function W128 ∷ []
 
   abbrev outer : List Function
-  outer = start_c K p ∷ react_c K q ∷ []
+  outer = init_c K ∷ start_c K p ∷ react_c K q ∷ []
 
   -- each of these has the head of what it is for
-  other_heads : (f j : ℕ) (g : Function) → f ≡ K.procs + j → j < 10 → get_or (others ++ outer) j g ≡ g
+  other_heads : (f j : ℕ) (g : Function) → f ≡ K.procs + j → j < 11 → get_or (others ++ outer) j g ≡ g
       → HasHead names f (get_or other_kinds j Outside) g
   other_heads f zero g at within is = subst (HasHead names f Home) is (record { result = refl; parameters = refl })
   other_heads f (suc zero) g at within is =
@@ -85,15 +85,21 @@ module _ (chart : List ℕ) (K : Shape) (bodies : ℕ → plan.Block) (p q : ℕ
   other_heads f (suc (suc (suc (suc (suc (suc (suc (suc zero)))))))) g at within is =
       subst (HasHead names f Outside) is (record {
         result = refl;
-        parameters = ap (λ (b : Bool). replicate (cond b 0 1) (Unsigned W32)) (eq-eqb f (K.procs + 8) (omega arith));
+        parameters = ap (λ (b : Bool). replicate (cond b 1 0) (Unsigned W32))
+            (ne_eqb f (K.procs + 10) (λ e. omega (arith, e)));
       })
   other_heads f (suc (suc (suc (suc (suc (suc (suc (suc (suc zero))))))))) g at within is =
       subst (HasHead names f Outside) is (record {
         result = refl;
-        parameters = ap (λ (b : Bool). replicate (cond b 0 1) (Unsigned W32))
-            (ne_eqb f (K.procs + 8) (λ e. omega (arith, e)));
+        parameters = ap (λ (b : Bool). replicate (cond b 1 0) (Unsigned W32))
+            (ne_eqb f (K.procs + 10) (λ e. omega (arith, e)));
       })
-  other_heads f (suc (suc (suc (suc (suc (suc (suc (suc (suc (suc j)))))))))) g at within is =
+  other_heads f (suc (suc (suc (suc (suc (suc (suc (suc (suc (suc zero)))))))))) g at within is =
+      subst (HasHead names f Outside) is (record {
+        result = refl;
+        parameters = ap (λ (b : Bool). replicate (cond b 1 0) (Unsigned W32)) (eq-eqb f (K.procs + 10) (omega arith));
+      })
+  other_heads f (suc (suc (suc (suc (suc (suc (suc (suc (suc (suc (suc j))))))))))) g at within is =
       absurd (omega (arith, within))
 
   -- the declaration of a function is its head

@@ -45,7 +45,8 @@ word_ends procs i within e = ⊎_elim
     other_ends (suc (suc (suc (suc (suc (suc (suc zero))))))) lt same = omega (arith, same)
     other_ends (suc (suc (suc (suc (suc (suc (suc (suc zero)))))))) lt same = omega (arith, same)
     other_ends (suc (suc (suc (suc (suc (suc (suc (suc (suc zero))))))))) lt same = omega (arith, same)
-    other_ends (suc (suc (suc (suc (suc (suc (suc (suc (suc (suc j)))))))))) lt same = omega (arith, lt)
+    other_ends (suc (suc (suc (suc (suc (suc (suc (suc (suc (suc zero)))))))))) lt same = omega (arith, same)
+    other_ends (suc (suc (suc (suc (suc (suc (suc (suc (suc (suc (suc j))))))))))) lt same = omega (arith, lt)
 
 -- ---- locals
 

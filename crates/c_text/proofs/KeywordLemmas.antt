@@ -75,7 +75,8 @@ counters_free (suc zero) = refl
 counters_free (suc (suc zero)) = refl
 counters_free (suc (suc (suc zero))) = refl
 counters_free (suc (suc (suc (suc zero)))) = refl
-counters_free (suc (suc (suc (suc (suc i))))) = refl
+counters_free (suc (suc (suc (suc (suc zero))))) = refl
+counters_free (suc (suc (suc (suc (suc (suc i)))))) = refl
 
 child_free : (k : ℕ) → is_keyword (codes "child_" ++ decimal k) ≡ false
 unfolding is_keyword
@@ -134,7 +135,8 @@ words_of_functions_free procs i within = ⊎_elim
     others_free (suc (suc (suc (suc (suc (suc (suc zero))))))) lt = refl
     others_free (suc (suc (suc (suc (suc (suc (suc (suc zero)))))))) lt = refl
     others_free (suc (suc (suc (suc (suc (suc (suc (suc (suc zero))))))))) lt = refl
-    others_free (suc (suc (suc (suc (suc (suc (suc (suc (suc (suc j)))))))))) lt = absurd (omega (arith, lt))
+    others_free (suc (suc (suc (suc (suc (suc (suc (suc (suc (suc zero)))))))))) lt = refl
+    others_free (suc (suc (suc (suc (suc (suc (suc (suc (suc (suc (suc j))))))))))) lt = absurd (omega (arith, lt))
 
 -- no function's name is one
 pub functions_free : (L : Labels) → AreFree (function_labels L)

@@ -189,7 +189,8 @@ counters_part (suc zero) within = refl
 counters_part (suc (suc zero)) within = refl
 counters_part (suc (suc (suc zero))) within = refl
 counters_part (suc (suc (suc (suc zero)))) within = refl
-counters_part (suc (suc (suc (suc (suc i))))) within = absurd (omega (arith, within))
+counters_part (suc (suc (suc (suc (suc zero))))) within = refl
+counters_part (suc (suc (suc (suc (suc (suc i)))))) within = absurd (omega (arith, within))
 
 -- ---- all of them
 
@@ -216,7 +217,8 @@ counters_told (suc zero) within = refl
 counters_told (suc (suc zero)) within = refl
 counters_told (suc (suc (suc zero))) within = refl
 counters_told (suc (suc (suc (suc zero)))) within = refl
-counters_told (suc (suc (suc (suc (suc i))))) within = absurd (omega (arith, within))
+counters_told (suc (suc (suc (suc (suc zero))))) within = refl
+counters_told (suc (suc (suc (suc (suc (suc i)))))) within = absurd (omega (arith, within))
 
 module _ (L : Labels) where
   child : List (List ℕ)

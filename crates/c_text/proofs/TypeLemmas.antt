@@ -49,12 +49,11 @@ unfolding field_types first_values
 types_of_fields chart K = sym
     (map-append (λ (x : CValue). x.type)
     (map (λ (v : Var). record { type = field_type v.sort; value = v.init }) K.names.vars)
-    (zero_word ∷ zero_word ∷ zero_word ∷ zero_word ∷ zero_word ∷ state_values K.tree)
-    ∙ ap (λ (ts : List CType).
-    ts ++ types (zero_word ∷ zero_word ∷ zero_word ∷ zero_word ∷ zero_word ∷ state_values K.tree))
+    (replicate 6 zero_word ++ state_values K.tree)
+    ∙ ap (λ (ts : List CType). ts ++ types (replicate 6 zero_word ++ state_values K.tree))
     (data_types K.names.vars)
     ∙ ap (λ (ts : List CType). map (λ (v : Var). field_type v.sort) K.names.vars
-    ++ Unsigned W32 ∷ Unsigned W32 ∷ Unsigned W32 ∷ Unsigned W32 ∷ Unsigned W32 ∷ ts)
+    ++ (replicate 6 (Unsigned W32) ++ ts))
     (state_types K.tree))
 
 -- there are as many names as types
@@ -79,9 +78,9 @@ names_of_fields L =
       length-map-range_with_len (λ (k : ℕ). codes "child_" ++ decimal k) 0 L.ors,
       length-map-range_with_len (λ (k : ℕ). codes "last_" ++ decimal k) 0 L.ors,
       length-map-range_with_len (λ (k : ℕ). codes "flags_" ++ decimal k) 0 L.words,
-      length-append data_of (replicate 5 (Unsigned W32) ++ (numbers ++ words)),
+      length-append data_of (replicate 6 (Unsigned W32) ++ (numbers ++ words)),
       length-append numbers words,
-      length-append (replicate 5 (Unsigned W32)) (numbers ++ words),
+      length-append (replicate 6 (Unsigned W32)) (numbers ++ words),
       length-replicate (L.ors + L.ors) (Unsigned W16),
       length-replicate L.words (Unsigned W32),
     )

@@ -28,14 +28,14 @@ result_type Noted = Unsigned W32
 result_type (Floor w) = Signed w
 result_type Outside = Truth
 
--- the parameters of a function: five words of a procedure, a state, the same five and a procedure, two numbers, none
--- of the start, the event of a reaction
+-- the parameters of a function: five words of a procedure, a state, the same five and a procedure, two numbers, the
+-- event of a reaction, none of what else is called from outside
 abbrev pub parameter_types : Labels → ℕ → Kind → List CType
 parameter_types L f Procedure = replicate 5 (Unsigned W32)
 parameter_types L f Home = replicate 1 (Unsigned W32)
 parameter_types L f Noted = replicate 6 (Unsigned W32)
 parameter_types L f (Floor w) = replicate 2 (Signed w)
-parameter_types L f Outside = replicate (if f == L.procs + 8 then 0 else 1) (Unsigned W32)
+parameter_types L f Outside = replicate (if f == L.procs + 10 then 1 else 0) (Unsigned W32)
 
 -- all but what is called from outside is static
 abbrev pub linkage_text : Kind → List ℕ

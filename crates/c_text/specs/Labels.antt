@@ -60,7 +60,8 @@ datum_label v = kind_word v.kind ++ v.name
 
 -- the fields between those of data and those of states
 abbrev pub counter_labels : List (List ℕ)
-counter_labels = codes "used" ∷ codes "outs" ∷ codes "noted" ∷ codes "fault" ∷ codes "fault_datum" ∷ []
+counter_labels =
+    codes "used" ∷ codes "outs" ∷ codes "noted" ∷ codes "fault" ∷ codes "fault_datum" ∷ codes "ready" ∷ []
 
 -- the fields of states: of each OR the active child and the one that it remembers, and words of bits
 abbrev pub state_labels : Labels → List (List ℕ)
@@ -80,7 +81,7 @@ field_label L f = slice_index_or (field_labels L) f []
 unfoldable pub field_types : Labels → List CType
 field_types L =
     map (λ (v : Var). field_type v.sort) L.names.vars
-    ++ (replicate 5 (Unsigned W32)
+    ++ (replicate 6 (Unsigned W32)
     ++ (replicate (L.ors + L.ors) (Unsigned W16) ++ replicate L.words (Unsigned W32)))
 
 -- the type of a field
@@ -100,7 +101,8 @@ row_label a = slice_index_or row_labels a []
 -- the functions after those of procedures
 abbrev pub other_kinds : List Kind
 other_kinds =
-    Home ∷ Home ∷ Noted ∷ Floor W8 ∷ Floor W16 ∷ Floor W32 ∷ Floor W64 ∷ Floor W128 ∷ Outside ∷ Outside ∷ []
+    Home ∷ Home ∷ Noted ∷ Floor W8 ∷ Floor W16 ∷ Floor W32 ∷ Floor W64 ∷ Floor W128 ∷ Outside
+    ∷ Outside ∷ Outside ∷ []
 
 -- what a function is for, by its number
 unfoldable pub function_kind : Labels → ℕ → Kind
@@ -110,7 +112,7 @@ function_kind L f = if nat_lt f L.procs then Procedure else slice_index_or other
 abbrev pub other_words : List (List ℕ)
 other_words =
     codes "is_on" ∷ codes "is_bare" ∷ codes "noted" ∷ codes "div8" ∷ codes "div16" ∷ codes "div32" ∷ codes "div64"
-    ∷ codes "div128" ∷ codes "start" ∷ codes "react" ∷ []
+    ∷ codes "div128" ∷ codes "init" ∷ codes "start" ∷ codes "react" ∷ []
 
 -- the words of all functions, in their order
 abbrev pub function_words : ℕ → List (List ℕ)

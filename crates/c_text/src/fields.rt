@@ -8,6 +8,7 @@ use crate::labels::Labels;
 use crate::numbers::print_number;
 use crate::types::print_type;
 use actions::{Var, VarKind};
+use c_functions::WORD;
 use c_subset::{CType, Width};
 use std::alloc::AllocError;
 
@@ -66,7 +67,8 @@ fn print_counter_label(
         2 => out.push_str("noted"),
         3 => out.push_str("fault"),
         4 => out.push_str("fault_datum"),
-        _ => print_state_label(out, labels, place - 5),
+        5 => out.push_str("ready"),
+        _ => print_state_label(out, labels, place - 6),
     }
 }
 
@@ -120,14 +122,26 @@ pub fn field_type(labels: &Labels<'_>, field: u32) -> CType
 
 /// The type of a field after those of data.
 fn state_type(ors: usize, words: usize, place: usize) -> CType
-    ensures { result ≡ slice_index_or (replicate 5 (CType.Unsigned Width.W32)
+    ensures { result ≡ slice_index_or (replicate 6 (CType.Unsigned Width.W32)
         ++ (replicate (ors + ors) (CType.Unsigned Width.W16)
         ++ replicate words (CType.Unsigned Width.W32))) place (CType.Unsigned Width.W32) }
 {
-    if 5 <= place && (place - 5 < ors || place - 5 - ors < ors) {
+    if place < 6 {
+        WORD
+    } else {
+        number_type(ors, words, place - 6)
+    }
+}
+
+/// The type of a field after those of counters.
+fn number_type(ors: usize, words: usize, place: usize) -> CType
+    ensures { result ≡ slice_index_or (replicate (ors + ors) (CType.Unsigned Width.W16)
+        ++ replicate words (CType.Unsigned Width.W32)) place (CType.Unsigned Width.W32) }
+{
+    if place < ors || place - ors < ors {
         CType::Unsigned(Width::W16)
     } else {
-        CType::Unsigned(Width::W32)
+        WORD
     }
 }
 

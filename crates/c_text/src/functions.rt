@@ -53,10 +53,10 @@ pub fn print_prototype(out: &mut String, labels: &Labels<'_>, number: u32) -> Re
             print_declared(out, labels, number, kind, &[CType::Signed(width); 2])
         }
         Kind::Outside => {
-            if u64::from(number) == u64::from(labels.procs) + 8 {
-                print_declared(out, labels, number, kind, &[])
-            } else {
+            if u64::from(number) == u64::from(labels.procs) + 10 {
                 print_declared(out, labels, number, kind, &[WORD])
+            } else {
+                print_declared(out, labels, number, kind, &[])
             }
         }
     }

@@ -20,7 +20,7 @@ pub enum Kind {
     Noted,
     /// The floor of a quotient of numbers of that width.
     Floor(Width),
-    /// A call from outside: the start or a reaction.
+    /// A call from outside: that stores the first values, the start or a reaction.
     Outside,
 }
 
@@ -97,8 +97,9 @@ fn other_word(place: u32) -> Option<&'static str>
         5 => Some("div32"),
         6 => Some("div64"),
         7 => Some("div128"),
-        8 => Some("start"),
-        9 => Some("react"),
+        8 => Some("init"),
+        9 => Some("start"),
+        10 => Some("react"),
         _ => None,
     }
 }

@@ -8,7 +8,7 @@ ghost use Rattle.c_subset.specs.Trees.{Function};
 ghost use Rattle.c_functions.specs.Statements as plan;
 ghost use Rattle.c_functions.specs.Plans.{Shape};
 ghost use Rattle.c_functions.specs.Files.{functions_c};
-ghost use Rattle.c_functions.specs.Starts.{first_values, start_c, react_c};
+ghost use Rattle.c_functions.specs.Starts.{first_values, init_c, start_c, react_c};
 ghost use Rattle.c_text.specs.declared.kinds.Kind.{Kind};
 ghost use Rattle.c_text.specs.Distinct.{AreDistinct, is_keyword};
 ghost use Rattle.c_text.specs.Functions.{head_text, prototype_text};
@@ -55,7 +55,7 @@ pub fn fields_are_those_of_the_struct()
 /// The declaration of each function of a file is the head of that function, and a semicolon.
 pub fn declarations_are_heads()
     ensures { (chart : List ℕ) (K : Shape) (bodies : ℕ → plan.Block) (p q f : ℕ) (g : Function)
-        → slice_get (functions_c K bodies ++ start_c K p ∷ react_c K q ∷ []) f ≡ Some g
+        → slice_get (functions_c K bodies ++ init_c K ∷ start_c K p ∷ react_c K q ∷ []) f ≡ Some g
         → prototype_text (labels_for chart K.names K.tree K.procs) f
         ≡ head_text (labels_for chart K.names K.tree K.procs) f g.result g.parameters
         ++ (codes ";" ++ 10 ∷ []) }

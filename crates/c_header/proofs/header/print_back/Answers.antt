@@ -11,6 +11,7 @@ returns c =
       c.in_ok-print_states.ensures,
       c.in_ok-print_react.ensures,
       c.in_ok-print_start.ensures,
+      c.in_ok-print_init.ensures,
       c.in_ok-print_struct.ensures,
     )
     (simp append_assoc))

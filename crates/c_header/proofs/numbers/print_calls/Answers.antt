@@ -8,6 +8,7 @@ unfolding calls_text
 returns c =
     last _ _ _ _ c.print_recursion.ensures
     (rw (
+      c.in_ok-print_define.ensures,
       c.in_ok-push_str.ensures.bytes,
       c.calls_number.ensures,
       c.calls_comment.ensures,

@@ -6,8 +6,9 @@ use Rattle.c_header.proofs.numbers.print_faults.Goals as goal
 pub returns : goal.returns
 unfolding faults_text
 returns c =
-    last _ _ _ _ c.print_define-5.ensures
+    last _ _ _ _ c.print_define-6.ensures
     (rw (
+      c.in_ok-print_define-5.ensures,
       c.in_ok-print_define-4.ensures,
       c.in_ok-print_define-3.ensures,
       c.in_ok-print_define-2.ensures,

@@ -23,7 +23,7 @@ use Rattle.c_expression_writer.specs.FileShapes.{shape_seen, tests_seen}
 use Rattle.c_header.specs.declared.facts.SourceFacts.{SourceFacts}
 use Rattle.c_header.specs.declared.identity.Identity.{Identity}
 use Rattle.c_header.specs.Header.{calls_number, header_text}
-use Rattle.c_file.specs.declared.file.Files.{Files}
+use Rattle.c_file.specs.declared.file.CFiles.{CFiles}
 use Rattle.c_file.specs.declared.made.Made.{Made}
 use Rattle.c_file.specs.declared.written.Written.{Written}
 use Rattle.c_file.specs.Comments.{IsTagOf, comments_for, said_of}
@@ -114,7 +114,7 @@ source_for c T limits room k origins tags facts written identity =
     (calls_number facts.calls) (written_file k T limits room).functions written
 
 -- both files are those of what they are made from, for a list of the functions that are reached and facts that hold
-pub record IsPrinted (made : Made) (identity : Identity) (files : Files) : Type 0 where
+pub record IsPrinted (made : Made) (identity : Identity) (files : CFiles) : Type 0 where
   pub written : List Bool
   pub facts : SourceFacts
   pub hold : AreFacts (labels_of made.labels) (functions_of made) written facts

@@ -80,7 +80,7 @@ fn printed_header(
 
 /// The header and the source of a chart's C.
 #[derive(Drop)]
-pub struct Files {
+pub struct CFiles {
     /// The header, for a file `CHART.h`.
     pub header: String,
     /// The source, which includes the header by this name.
@@ -88,7 +88,7 @@ pub struct Files {
 }
 
 /// Both files, made of the same. Each function is made twice: to see what it uses, and to print it.
-fn printed_files(alloc: Global, made: &Made<'_>, identity: Identity) -> Result<Files, Memory>
+fn printed_files(alloc: Global, made: &Made<'_>, identity: Identity) -> Result<CFiles, Memory>
     requires is { IsMade made.now }
     ensures { IfOk result (IsPrinted made.now identity) }
 {
@@ -97,7 +97,7 @@ fn printed_files(alloc: Global, made: &Made<'_>, identity: Identity) -> Result<F
     let header = printed_header(alloc, made, facts, identity)?;
     let calls = calls_number(facts.calls);
     let source = printed_source(alloc, made, &uses, calls, identity)?;
-    Ok(Files { header, source })
+    Ok(CFiles { header, source })
 }
 
 /// Header and source of a chart's C, both for the same code: what the header declares, and the
@@ -109,7 +109,7 @@ fn printed_files(alloc: Global, made: &Made<'_>, identity: Identity) -> Result<F
 /// `Memory` only where memory was refused.
 ///
 /// Source: this project's choice.
-pub fn files(alloc: Global, chart: &Chart, identity: Identity) -> Result<Files, Memory>
+pub fn files(alloc: Global, chart: &Chart, identity: Identity) -> Result<CFiles, Memory>
     ensures { IfOk result (λ files. IsC (chart_of chart.now) identity
         (string_bytes files.header) (string_bytes files.source)) }
 {

@@ -19,7 +19,7 @@ mod said;
 mod uses;
 mod written;
 
-pub use file::{Files, files};
+pub use file::{CFiles, files};
 pub use laws::{
     declarations_of_the_file_are_heads, the_smaller_code_of_a_chart_is_one,
     the_source_for_code_is_one, the_struct_of_the_header_is_that_of_the_source,

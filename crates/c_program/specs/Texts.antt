@@ -17,14 +17,14 @@ use Rattle.commands.specs.Texts.{TextEnds}
 use Rattle.commands.specs.Writing.{Wrote, WroteFront}
 use Rattle.c_header.specs.declared.identity.Identity.{Identity}
 use Rattle.c_header.specs.Identity.{version}
-use Rattle.c_file.specs.declared.file.Files.{Files}
+use Rattle.c_file.specs.declared.file.CFiles.{CFiles}
 use Rattle.c_file.specs.Files.{IsHeader, IsSource}
 use Rattle.c_program.specs.Bounds.{IsBoundsFor}
 use Rattle.c_program.specs.declared.files.CFile.{CFile}
 use Rattle.c_program.specs.declared.files.CFile.TheVariants.{Header, Source}
 
 -- that one of both files
-abbrev pub chosen : CFile → Files → String Global
+abbrev pub chosen : CFile → CFiles → String Global
 chosen Header files = files.header
 chosen Source files = files.source
 

@@ -13,7 +13,7 @@ ghost use Rattle.c_program.specs.Texts.{FileEnds, HasC, IsOfC, IsSummed, sum_of}
 
 use crate::bounds::bounds_for;
 use accepted_charts::accept_chart;
-use c_file::{Files, files};
+use c_file::{CFiles, files};
 use c_header::Identity;
 use chart_format::format_text;
 use chart_tree::{CHART_TEXT_LIMIT, FormFault};
@@ -140,7 +140,7 @@ fn file_of(
 }
 
 /// That one of both files.
-fn chosen(file: CFile, made: Files) -> String
+fn chosen(file: CFile, made: CFiles) -> String
     ensures { result ≡ spec.chosen file made }
 {
     match file {

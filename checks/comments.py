@@ -1,21 +1,23 @@
 #!/usr/bin/env python3
 """Holds the comments of the C that a built `chart_to_c` writes of random charts against what its functions are called with.
 
-    python3 checks/comments.py --against CHART_TO_C --charts N [--seed S] [--first M] [--events E] [--jobs J] [--keep FOLDER]
+    python3 checks/comments.py --against CHART_TO_C --charts N [--seed S] [--first M] [--largest BYTES] [--events E] [--jobs J]
+                               [--keep FOLDER]
     python3 checks/comments.py --against CHART_TO_C CHART .. [--seed S] [--events E]
 
-The comment above a function names the event and the home for which it is, where it is for one alone: `, where the event is GO`,
-`, where the home is Door/Open`, ` and the home is the chart`. `, where the event is another one` are those that no comment of the
-same part and the same home names. Nothing is said of them where no more stands there, nor where `, and what is equal to it` admits
-others. Each function is given a test that its parameters `event` and `home` are so, at its beginning and at each turn of the loop that
-takes the place of a call of itself. The C is compiled by gcc, and starts and takes E random events of the chart or ticks, 2,000 where nothing is said, with random
-values of the inputs; after a fault it starts again.
+The comment above a function names the event and the home for which it is, where it is for one alone: `, where the event is GO`, `,
+where the home is Door/Open`, ` and the home is the chart`. `, where the event is another one` are those that no comment of the same
+part and the same home names. Nothing is said of them where no more stands there, nor where `, and what is equal to it` admits others.
+Each function is given a test that its parameters `event` and `home` are so, at its beginning and at each turn of the loop that takes
+the place of a call of itself. The C is compiled by gcc, and starts and takes E random events of the chart or ticks, 2,000 where
+nothing is said, with random values of the inputs; after a fault it starts again.
 
-A random chart and its bounds are made as c_runs.py makes them: they follow from the seed and the chart's number. J charts are tried at
-a time, as many as there are processors where nothing is said; what is written is the same for each J. A line tells each function that
-is called with another event or home than its comment names, and the chart is kept in FOLDER, which is `differences` where nothing is
-said. At the end stands how many comments name something, and how many functions were called. The program ends with status 1 where a
-comment is wrong, and where no comment was tried. A chart takes about a second of a processor."""
+A random chart and its bounds are made as c_runs.py makes them: they follow from the seed and the chart's number. Charts of more than
+BYTES bytes are left out, and none where nothing is said. J charts are tried at a time, as many as there are processors where nothing
+is said; what is written is the same for each J. A line tells each function that is called with another event or home than its comment
+names, and the chart is kept in FOLDER, which is `differences` where nothing is said. At the end stands how many comments name
+something, and how many functions were called. The program ends with status 1 where a comment is wrong, and where no comment was tried.
+A chart takes about a second of a processor."""
 import os
 import random
 import re
@@ -236,7 +238,7 @@ class Comparison:
                 for place, event, home in wrong], counts
 
     def random_chart(self, number):
-        """Compares a random chart; None where the chart isn't accepted."""
+        """Compares a random chart; None where the chart isn't accepted, or is too long."""
         (compared,) = rules.with_deep_calls(lambda: [self.compared_chart(number)])
         return compared
 
@@ -245,6 +247,8 @@ class Comparison:
         choices = random.Random('c %s %d' % (self.options.seed, number))
         made = random_charts.Maker(choices, True).chart()
         text = random_charts.Writer(choices).chart(made)
+        if self.options.largest and len(text) > self.options.largest:
+            return None
         try:
             check_chart(text)
         except rules.Fault:
@@ -278,6 +282,7 @@ def main(words):
     reader.add_argument('--charts', metavar='N', type=at_least_one, default=0)
     reader.add_argument('--seed', default='1')
     reader.add_argument('--first', metavar='M', type=int, default=0)
+    reader.add_argument('--largest', metavar='BYTES', type=int, default=0)
     reader.add_argument('--events', metavar='E', type=at_least_one, default=2000)
     reader.add_argument('--jobs', metavar='J', type=int, default=os.cpu_count())
     reader.add_argument('--keep', metavar='FOLDER', default='differences')

@@ -120,6 +120,14 @@ def said_of(path, name, functions, answer):
 
 
 def found(path, program, is_declared):
+    """What Eva finds of a chart, or a line that tells what failed."""
+    try:
+        return asked(path, program, is_declared)
+    except (Failed, OSError) as failed:
+        return Found([str(failed)])
+
+
+def asked(path, program, is_declared):
     """What Eva finds of a chart."""
     with open(path, 'rb') as file:
         text = file.read().decode('latin-1')
@@ -143,16 +151,13 @@ def main(words):
     reader.add_argument('charts', metavar='CHART', nargs='+')
     options = reader.parse_args(words)
     program = os.path.abspath(options.against)
+    answers = []
     with ThreadPoolExecutor(options.jobs) as several:
-        try:
-            answers = list(several.map(lambda path: found(path, program, options.declared), options.charts))
-        except (Failed, OSError) as failed:
-            print(failed)
-            return 1
-    for path, each in zip(options.charts, answers):
-        if each.is_left_out:
-            print('%s: left out, since its C needs a type of 128 bits' % path)
-        print(''.join(line + '\n' for line in each.lines), end='')
+        for path, each in zip(options.charts, several.map(lambda path: found(path, program, options.declared), options.charts)):
+            answers.append(each)
+            if each.is_left_out:
+                print('%s: left out, since its C needs a type of 128 bits' % path)
+            print(''.join(line + '\n' for line in each.lines), end='', flush=True)
     looked_at = [each for each in answers if not each.is_left_out]
     print('%d charts, %d of them with alarms; Eva came to %d of %d functions' % (
         len(looked_at), sum(bool(each.lines) for each in looked_at), sum(each.reached for each in looked_at),

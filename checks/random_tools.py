@@ -7,9 +7,9 @@ A case is a chart of random_charts.py with an event file. flowwhy explains whate
 must be that of PROGRAM's line. Of an accepted chart flowlint gives its warnings, and then the chart runs over random event files
 by the rules: no transition may be enabled that flowlint calls never taken, no state be entered and no junction with transitions
 be visited that it calls never reached; a search that comes to a junction which it calls endless must end with a fault; no condition
-may be otherwise than it says that it always is; no during action may run that it calls never run, and no state beside one be entered
-of which it says that nothing leaves it. flowtrace must give back each trace. It writes counts, and ends with status 1 where
-anything is wrong."""
+may be otherwise than it says that it always is; no during action may run that it calls never run, and no state beside one be
+entered of which it says that nothing leaves it. flowtrace must give back each trace. It writes counts, and ends with status 1
+where anything is wrong."""
 import os
 import random
 import sys

@@ -45,8 +45,8 @@ def model_for_page(sheets, lines, end, gaps):
         'states': [{'id': ids[state], 'path': model.paths[state], 'name': state.name, 'parent': ids.get(state.parent),
                     'composition': state.composition} for state in model.chart.states],
         'transitions': [transition_for_page(model, each) for each in model.transitions],
-        'data': [{'name': each.name, 'kind': each.kind, 'sort': scale_text(each.scale) if each.scale else 'bool'}
-                 for each in model.chart.data],
+        'data': [{'name': each.name, 'kind': each.kind, 'sort': scale_text(each.scale) if each.scale else 'bool',
+                  'constant': each in model.constants} for each in model.chart.data],
         'events': [{'name': each.name, 'kind': each.kind} for each in model.chart.events],
         'sheets': [{'id': sheets.name_of(drawn), 'crumbs': crumbs_for_page(sheets, drawn)} for drawn in sheets.all],
         'fired': [line.fired for line in lines] if gaps.exact else None,
@@ -78,6 +78,7 @@ def page_of(sheets, lines, end, gaps, run):
         style=part('page.css') + style_in_page() + part('run.css') + part('print.css'),
         drawings='\n'.join(drawing_in_page(sheets, drawn, gaps) for drawn in sheets.all),
         summary='Coverage: ' + escape(gaps.head()), gap_items='\n'.join(items) or '<li>nothing is without a sign</li>',
+        declarations='\n'.join('<li><code>%s</code></li>' % escape(each) for each in sheets.model.declarations()),
         note=escape(gaps.note()), fired_word='fired' if gaps.exact else 'may have fired',
         ended_word='<span><i class="g"></i>ended in a junction</span>' if gaps.exact else '',
         cut='' if len(lines) == len(shown) else 'the first %d of %d lines' % (len(shown), len(lines)),

@@ -34,7 +34,10 @@ rows = ((λ e. omega (arith, e)), ((λ e. omega (arith, e)), tt))
 counters : AllByRecursion IsOther counter_labels
 counters = (
   (λ e. omega (arith, e)),
-  ((λ e. omega (arith, e)), ((λ e. omega (arith, e)), ((λ e. omega (arith, e)), ((λ e. omega (arith, e)), tt)))),
+  (
+    (λ e. omega (arith, e)),
+    ((λ e. omega (arith, e)), ((λ e. omega (arith, e)), ((λ e. omega (arith, e)), ((λ e. omega (arith, e)), tt)))),
+  ),
 )
 
 datum : (v : Var) → IsOther (datum_label v)

@@ -26,6 +26,13 @@ five_parts old a b c d e one two three four p q r s =
     after three d e four s ∙ after two c (d ++ e) three r ∙ after one b (c ++ (d ++ e)) two q
     ∙ after old a (b ++ (c ++ (d ++ e))) one p
 
+-- a sixth part after five
+pub six_parts : (old a b c d e f one two three four five : List ℕ)
+    → one ≡ old ++ a → two ≡ one ++ b → three ≡ two ++ c → four ≡ three ++ d → five ≡ four ++ e
+    → five ++ f ≡ old ++ (a ++ (b ++ (c ++ (d ++ (e ++ f)))))
+six_parts old a b c d e f one two three four five p q r s t =
+    after four e f five t ∙ five_parts old a b c d (e ++ f) one two three four p q r s
+
 -- an eighth part after seven that were printed
 pub eight_parts : (old a b c d e f g h one two three four five six seven : List ℕ)
     → one ≡ old ++ a → two ≡ one ++ b → three ≡ two ++ c → four ≡ three ++ d → five ≡ four ++ e → six ≡ five ++ f

@@ -81,12 +81,7 @@ fn print_opening(
 }
 
 /// Appends words, and one of the chart's names in C, whose word goes on with other text.
-fn print_of_chart(
-    out: &mut String,
-    front: &str,
-    chart: &str,
-    back: &str,
-) -> Result<(), AllocError>
+fn print_of_chart(out: &mut String, front: &str, chart: &str, back: &str) -> Result<(), AllocError>
     ensures { OnOk result (string_bytes out.new
         ≡ string_bytes out.old ++ spec.named_text front.now chart.now back.now) }
 {
@@ -130,13 +125,7 @@ fn print_sizes_fit(
         chart,
         "header_fits[((",
     )?;
-    print_number_is(
-        out,
-        "",
-        chart,
-        "DEPTH == ",
-        u64::from(bounds.depth),
-    )?;
+    print_number_is(out, "", chart, "DEPTH == ", u64::from(bounds.depth))?;
     print_number_is(
         out,
         ")\n    && (",
@@ -144,13 +133,7 @@ fn print_sizes_fit(
         "STEPS == ",
         u64::from(bounds.steps),
     )?;
-    print_number_is(
-        out,
-        ")\n    && (",
-        chart,
-        "OUTPUTS == ",
-        u64::from(outputs),
-    )?;
+    print_number_is(out, ")\n    && (", chart, "OUTPUTS == ", u64::from(outputs))?;
     print_number_is(out, ")\n    && (", chart, "NOTES == ", notes)?;
     print_number_is(out, ")\n    && (", chart, "CALLS == ", calls)?;
     Ok(())

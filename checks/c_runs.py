@@ -4,12 +4,13 @@
     python3 checks/c_runs.py --against CHART_TO_C CHART ..
     python3 checks/c_runs.py --against CHART_TO_C --random N [--seed S] [--first M] [--jobs J] [--keep FOLDER]
 
-c_subset.py reads the header and the source and runs them. It refuses what isn't in the grammar of the page, and stops at what has no
-rule there. The event file is read and the trace is written by chart_rules.py, with the states and the values of the struct. The first
-form runs charts over the event files that stand beside them, and compares with the traces there. The second form makes N random
-charts with event files and bounds as random_compiled.py does, without the changes that a chart would be refused for, and compares with
-what chart_rules.py writes of the chart; a chart and its events follow from the seed and its number. J charts are run at a time, as
-many as there are processors where nothing is said; what is written is the same for each J.
+c_subset.py reads the header and the source and runs them. It refuses what isn't in the grammar of the page, and stops at what has
+no rule there. The event file is read and the trace is written by chart_rules.py, with the states and the values of the struct.
+After the last event each number that is no event must be refused, and where the run is over each number, and a second start. The
+first form runs charts over the event files that stand beside them, and compares with the traces there. The second form makes N
+random charts with event files and bounds as random_compiled.py does, without the changes that a chart would be refused for, and
+compares with what chart_rules.py writes of the chart; a chart and its events follow from the seed and its number. J charts are run
+at a time, as many as there are processors where nothing is said; what is written is the same for each J.
 
 The program ends with status 1 where anything differs and where there is no chart. The files of a random chart that differs are kept in
 FOLDER, which is `differences` where nothing is said. A chart takes about half a second of a processor."""
@@ -32,6 +33,8 @@ from random_compiled import DEFAULT_BOUNDS, bounds_of
 
 FUEL = 100000
 FAULTS = {1: 'depth', 2: 'steps', 3: 'overflow', 4: 'zero'}
+NO_EVENT = 5                # the fault of a number that is no event
+GREATEST = 2 ** 32 - 1
 
 
 class Machine:
@@ -53,8 +56,11 @@ class Machine:
         for datum, value in inputs.items():
             mantissa = int(value) if datum.scale is None else int(value * 2 ** datum.scale.fraction)
             self.run.store(field_of(datum), None, mantissa)
-        name = '%s_TICK' % self.name if event is None else '%s_E_%s' % (self.name, event.name)
-        return self.result('react', self.file.constants[name])
+        return self.result('react', self.number(event))
+
+    def number(self, event):
+        """The number of an event, which is None for a tick."""
+        return self.file.constants['%s_TICK' % self.name if event is None else '%s_E_%s' % (self.name, event.name)]
 
     def result(self, call, *arguments):
         """Calls the start or a reaction, takes what the struct shows, and gives the result of the trace."""
@@ -66,6 +72,28 @@ class Machine:
             return 'ok'
         fault = FAULTS[self.run.fields['fault']]
         return 'overflow ' + self.chart.data[self.run.fields['fault_datum']].name if fault == 'overflow' else fault
+
+    def members(self):
+        """What the struct holds now."""
+        return dict(self.run.fields), {name: list(each) for name, each in self.run.elements.items()}
+
+    def refusals(self):
+        """What should be refused now: calls with their arguments, and the members that each has to leave."""
+        fields, elements = kept = self.members()
+        over = dict(fields, fault=NO_EVENT, fault_datum=0, ready=0), elements
+        taken = {self.number(each) for each in self.chart.events if each.kind == 'input'} | {self.number(None)}
+        for number in (*range(self.number(None) + 3), GREATEST):
+            if not fields['ready'] or number not in taken:
+                yield ('react', number), over if fields['ready'] else kept
+        yield ('start',), kept
+
+    def check_refusals(self):
+        """Makes each call that should be refused, from the struct as it is, and holds what it leaves against what it should."""
+        fields, elements = self.members()
+        for call, expected in list(self.refusals()):
+            self.run.fields, self.run.elements = dict(fields), {name: list(each) for name, each in elements.items()}
+            if self.called(*call) or self.members() != expected:
+                raise Failed('%s%r is not refused as it should be' % (call[0], call[1:]))
 
     def called(self, call, *arguments):
         return self.run.called('%s_%s' % (self.name, call), list(arguments), FUEL).number
@@ -81,7 +109,10 @@ def run_c(program, text, events, options=()):
         source, _ = make_c(program, text, folder, options)
         try:
             file = c_subset.read_file(os.path.join(folder, source))
-            return rules.run_events(Machine(check_chart(text), file), events.encode('latin-1'))
+            machine = Machine(check_chart(text), file)
+            answer = rules.run_events(machine, events.encode('latin-1'))
+            machine.check_refusals()
+            return answer
         except ENDINGS as wrong:
             return Ended('', ending(wrong) + '\n', None)
 

@@ -201,7 +201,7 @@ TOKEN = re.compile(r'''
     (?P<space>[ \n]+|/\*.*?\*/)
   | (?P<directive>\#[^\n]*)
   | (?P<name>[A-Za-z_][A-Za-z_0-9]*)
-  | (?P<number>(?:0|[1-9][0-9]*)u?(?![A-Za-z_0-9.]))
+  | (?P<number>(?:0x[0-9a-f]+|(?:0|[1-9][0-9]*)u?)(?![A-Za-z_0-9.]))
   | (?P<mark>->|\+\+|--|<<|>>|<=|>=|==|!=|&&|\|\||//|[-+*/%&|<>=!?:;,(){}\[\]])''', re.S | re.X)
 Token = namedtuple('Token', 'kind text line')                # a line of a header has its name before its number
 KEYWORDS = set('''auto break case char const continue default do double else enum extern float for goto if inline int long register
@@ -294,7 +294,7 @@ class Reader:
         self.tokens = [each for each in words if each.kind != 'directive'] + [Token('end', 'the end', last)]
         self.place, self.widths, self.included = 0, Widths(int_bits), directives.included
         self.types, self.file, self.struct = {}, File({}, {}, {}, {}), None
-        self.prototypes, self.locals, self.with_m, self.wide_names = {}, {}, False, {}
+        self.prototypes, self.locals, self.with_m, self.only_reads, self.wide_names = {}, {}, False, False, {}
 
     # -- single words
 
@@ -383,13 +383,23 @@ class Reader:
     def constants(self):
         """The numbers that the header names, which are constants of type int."""
         while self.take('enum {'):
-            name = self.new_name(self.file.constants, 'number')
-            self.want('=')
-            text = self.next('number', 'a number')
-            if text.endswith('u') or int(text) >= 2 ** 31:
-                self.refuse('`%s` is no number of type int' % text)
-            self.file.constants[name] = int(text)
+            self.constant_of_header()
+            while self.take(','):
+                self.constant_of_header()
             self.want('} ;')
+
+    def constant_of_header(self):
+        name = self.new_name(self.file.constants, 'number')
+        self.want('=')
+        self.file.constants[name] = self.number_of_header()
+
+    def number_of_header(self):
+        """A number of type int, which may be a hexadecimal one."""
+        text = self.next('number', 'a number')
+        number = int(text, 16) if text.startswith('0x') else int(text.removesuffix('u'))
+        if text.endswith('u') or number >= 2 ** 31:
+            self.refuse('`%s` is no number of type int' % text)
+        return number
 
     def fitting_type(self):
         """A type of an array whose size is 1 where the numbers of the header are those of the source, and else -1, which C refuses."""
@@ -410,11 +420,9 @@ class Reader:
         if name not in self.file.constants:
             self.refuse('the header has no number `%s`' % name)
         self.want('==')
-        text = self.next('number', 'a number')
-        if text.endswith('u') or int(text) >= 2 ** 31:
-            self.refuse('`%s` is no number of type int' % text)
+        number = self.number_of_header()
         self.want(')')
-        return self.file.constants[name] == int(text)
+        return self.file.constants[name] == number
 
     def wide_types(self):
         """The lines that name the types of 128 bits, each with any name."""
@@ -474,7 +482,8 @@ class Reader:
         type_ = self.type()
         name = self.new_name(self.file.functions, 'function')
         self.want('(')
-        with_m, parameters = self.take('const %s * m' % self.struct) or self.take('%s * m' % self.struct), {}
+        self.only_reads = self.take('const %s * m' % self.struct)
+        with_m, parameters = self.only_reads or self.take('%s * m' % self.struct), {}
         while not self.ahead(')'):
             if with_m or parameters:
                 self.want(',')
@@ -548,6 +557,8 @@ class Reader:
         return self.next('name', 'the name of a member')
 
     def store(self, line):
+        if self.only_reads:
+            self.refuse('this function only reads m')
         name, index = self.member(), None
         if self.take('['):
             index = self.expression()

@@ -1,12 +1,12 @@
 -- The names of the file scope are pairwise different, and no keywords.
 use Rattle.std.proofs.Common.{◌≡◌, ◌≢◌, ℕ, zero, suc, ◌+◌, ◌-◌, ◌<◌, ◌≤◌, ◌^◌, Bool, true, false, cond, ◌||◌, ◌&&◌, not}
-use Rattle.std.proofs.Common.{List, [], ◌∷◌, ◌++◌, length, map, get_or, refl, sym, ap, ◌∙◌, subst, arith, ⊎_elim}
+use Rattle.std.proofs.Common.{List, [], ◌∷◌, ◌++◌, length, map, get_or, refl, sym, ap, ◌∙◌, arith, ⊎_elim}
 use Rattle.std.specs.Prelude.{codes, decimal, nat_eq, nat_le}
 use Rattle.std.specs.List.{AllByRecursion, list_all, list_any, range_with_len}
 use Rattle.std.specs.Str.{bytes_eq}
 use Rattle.std.proofs.lemmas.Bool.{cases_lt, and_parts, leb-true}
 use Rattle.std.proofs.lemmas.Bool.Decides.{nat_tests}
-use Rattle.std.proofs.lemmas.List.{append_cancel_left, get_or-map, get_or_past, length-append, length-map}
+use Rattle.std.proofs.lemmas.List.{append_cancel_left, get_or-map, get_or_past, length-map}
 use Rattle.std.proofs.lemmas.List.FromFn.{length-map-range_with_len, get_or-map-range_with_len}
 use Rattle.active_config.specs.Tree.{Tree, state_count}
 use Rattle.actions.specs.declared.names.EventDecl.{EventDecl}
@@ -18,9 +18,8 @@ use Rattle.c_text.specs.Distinct.{AreDistinct, keywords, is_keyword}
 use Rattle.c_text.specs.Labels.{numbered_labels, other_words, function_words}
 use Rattle.c_text.proofs.FunctionNames.{words_distinct}
 use Rattle.c_text.proofs.KeywordLemmas.{words_of_functions_free}
-use Rattle.c_text.proofs.LabelLemmas.{numbered-at}
 use Rattle.c_text.proofs.MemberNames.{both_distinct}
-use Rattle.c_text.proofs.WordLemmas.{lines, lines-append, mark, is_last, is_free_word, name_free, names_distinct, none_of}
+use Rattle.c_text.proofs.WordLemmas.{lines, mark, is_last, is_free_word, name_free, names_distinct, none_of}
 use Rattle.c_header.specs.declared.paths.Form.TheVariants.{Label}
 use Rattle.c_header.specs.Paths.{path_text}
 use Rattle.c_header.specs.Scope.{HasNamedTree, event_words, test_word, test_words, fixed_words, scope_words, scope_labels}
@@ -92,9 +91,55 @@ others = (refl, (refl, (refl, (refl, (refl, (refl, (refl, (refl, (refl, (refl, (
 
 fixed : AllByRecursion (IsKind 4) fixed_words
 unfolding kind_of
-fixed =
-    (refl, (refl, (refl, (refl, (refl, (refl, (refl, (refl, (refl, (refl, (refl, (refl, (refl, (refl, (refl, (refl,
-    (refl, (refl, (refl, (refl, (refl, tt)))))))))))))))))))))
+fixed = (
+  refl,
+  (
+    refl,
+    (
+      refl,
+      (
+        refl,
+        (
+          refl,
+          (
+            refl,
+            (
+              refl,
+              (
+                refl,
+                (
+                  refl,
+                  (
+                    refl,
+                    (
+                      refl,
+                      (
+                        refl,
+                        (
+                          refl,
+                          (
+                            refl,
+                            (
+                              refl,
+                              (
+                                refl,
+                                (refl, (refl, (refl, (refl, (refl, tt))))),
+                              ),
+                            ),
+                          ),
+                        ),
+                      ),
+                    ),
+                  ),
+                ),
+              ),
+            ),
+          ),
+        ),
+      ),
+    ),
+  ),
+)
 
 events : (es : List EventDecl) → AllByRecursion (IsKind 2) (event_words es)
 unfolding kind_of
@@ -179,9 +224,9 @@ scope_words_distinct K h few =
 procedure_words : (procs : ℕ) → AllByRecursion IsWord (function_words procs)
 unfolding weight
 procedure_words procs = all_from IsWord (function_words procs) (λ i lt. record {
-      heavy = all_at (λ word. 1 ≤ weight word) (function_words procs) i (all_heavy procs) lt;
-      free = words_of_functions_free procs i lt;
-    })
+  heavy = all_at (λ word. 1 ≤ weight word) (function_words procs) i (all_heavy procs) lt;
+  free = words_of_functions_free procs i lt;
+})
   where
     all_heavy : (procs : ℕ) → AllByRecursion (λ word. 1 ≤ weight word) (function_words procs)
     all_heavy procs = all_both (λ word. 1 ≤ weight word) (numbered_labels (codes "p") procs) other_words

@@ -1,5 +1,5 @@
 -- What both files of a chart say of their making: by which program, under which bounds, and of which chart.
-use Rattle.std.specs.Prelude.{ℕ, ◌+◌, ◌*◌, List, [], ◌∷◌, ◌++◌, codes, decimal, slice_index}
+use Rattle.std.specs.Prelude.{ℕ, ◌+◌, List, [], ◌∷◌, ◌++◌, codes, decimal, slice_index}
 use Rattle.hex.specs.Hex.{encode_lower}
 use Rattle.c_names.specs.Stems.{name_of_chart}
 use Rattle.c_header.specs.declared.identity.Identity.{Identity}

@@ -231,7 +231,9 @@ fn print_init(
     ensures { OnOk result (string_bytes out.new ≡ string_bytes out.old
         ++ spec.init_text (labels_of labels.now) (shape_seen shape.now)) }
 {
-    out.push_str("/* Stores the first values of all data; nothing is active. Inputs that are stored after it hold\n")?;
+    out.push_str(
+        "/* Stores the first values of all data; nothing is active. Inputs that are stored after it hold\n",
+    )?;
     out.push_str("   at the start. */\n")?;
     print_prototype(out, labels, shape.init_function())
 }
@@ -273,7 +275,9 @@ fn print_react(
         chart,
         "TICK or one of the input events; any other number is a fault.\n",
     )?;
-    out.push_str("   Returns false, too, and changes nothing, before the start and after a fault. */\n")?;
+    out.push_str(
+        "   Returns false, too, and changes nothing, before the start and after a fault. */\n",
+    )?;
     print_prototype(out, labels, shape.react_function())?;
     out.push_str("\n")
 }

@@ -1,12 +1,12 @@
 -- No local has the name of a function, nor that of the struct.
-use Rattle.std.proofs.Common.{◌≡◌, ◌≢◌, ℕ, zero, suc, ◌+◌, ◌-◌, ◌<◌, ◌≤◌, ◌^◌, Bool, true, false, cond, List, []}
-use Rattle.std.proofs.Common.{◌∷◌, ◌++◌, ◌⊎◌, inl, inr, length, map, get_or, refl, sym, ap, subst, ◌∙◌, arith, ⊎_elim}
+use Rattle.std.proofs.Common.{◌≡◌, ◌≢◌, ℕ, zero, suc, ◌-◌, ◌<◌, ◌^◌, Bool, true, false, cond, List, []}
+use Rattle.std.proofs.Common.{◌∷◌, ◌++◌, ◌⊎◌, inl, inr, length, get_or, refl, sym, ap, ◌∙◌, arith, ⊎_elim}
 use Rattle.std.specs.Prelude.{codes, decimal}
 use Rattle.std.specs.Str.{bytes_eq}
 use Rattle.std.proofs.lemmas.Bool.{cases_lt}
 use Rattle.std.proofs.lemmas.List.{get_or-map, length-append, length-map}
 use Rattle.std.proofs.lemmas.List.FromFn.{length-map-range_with_len}
-use Rattle.c_names.specs.Stems.{stem, name_of_chart}
+use Rattle.c_names.specs.Stems.{name_of_chart}
 use Rattle.c_subset.specs.declared.trees.Width.TheVariants.{W8, W16, W32, W64, W128}
 use Rattle.c_subset.specs.declared.trees.CType.{CType}
 use Rattle.c_subset.specs.declared.trees.CType.TheVariants.{Signed, Unsigned, Truth}
@@ -26,8 +26,13 @@ unfolding mark
 word_ends procs i within e = ⊎_elim
     (λ li. procedure_ends i (ap (mark 95) (sym (numbered-first (codes "p") procs i other_words li)) ∙ e))
     (λ pi. other_ends (i - procs)
-    (omega (arith, pi, within, length-append (numbered_labels (codes "p") procs) other_words,
-    length-map-range_with_len (λ (k : ℕ). codes "p" ++ decimal k) 0 procs))
+    (omega (
+      arith,
+      pi,
+      within,
+      length-append (numbered_labels (codes "p") procs) other_words,
+      length-map-range_with_len (λ (k : ℕ). codes "p" ++ decimal k) 0 procs,
+    ))
     (ap (mark 95) (sym (numbered-past (codes "p") procs i other_words pi)) ∙ e))
     (cases_lt i procs)
   where

@@ -1,6 +1,6 @@
 -- No name is a keyword.
 use Rattle.std.proofs.Common.{◌≡◌, ℕ, zero, suc, ◌-◌, ◌<◌, Bool, true, false, not, ◌||◌, cond, List, [], ◌∷◌, ◌++◌}
-use Rattle.std.proofs.Common.{length, map, get_or, refl, sym, ap, ◌∙◌, arith, ⊎_elim}
+use Rattle.std.proofs.Common.{length, map, get_or, refl, ap, ◌∙◌, arith, ⊎_elim}
 use Rattle.std.specs.Prelude.{codes, decimal, nat_le}
 use Rattle.std.proofs.lemmas.Bool.{cases_lt}
 use Rattle.std.proofs.lemmas.List.{get_or_append_left, get_or-append_right, get_or-map, get_or_past, length-append}
@@ -111,8 +111,13 @@ unfolding lines mark
 words_of_functions_free procs i within = ⊎_elim
     (λ li. ap is_free_word (numbered-first (codes "p") procs i other_words li) ∙ procedure_free i)
     (λ pi. ap is_free_word (numbered-past (codes "p") procs i other_words pi) ∙ others_free (i - procs)
-    (omega (arith, pi, within, length-append (numbered_labels (codes "p") procs) other_words,
-    length-map-range_with_len (λ (k : ℕ). codes "p" ++ decimal k) 0 procs)))
+    (omega (
+      arith,
+      pi,
+      within,
+      length-append (numbered_labels (codes "p") procs) other_words,
+      length-map-range_with_len (λ (k : ℕ). codes "p" ++ decimal k) 0 procs,
+    )))
     (cases_lt i procs)
   where
     any : (b : Bool) → (b || true) ≡ true

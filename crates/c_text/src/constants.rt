@@ -18,7 +18,12 @@ const TWO_PARTS: u128 = 1 << 124;
 ///
 /// Source: C99, 6.4.4.1 and 7.18.4; in which of these forms is this project's choice.
 #[tactic(auto, unfolding(crate::specs::Types::constant_text))]
-pub fn print_constant(out: &mut String, chart: &str, of: CType, number: i128) -> Result<(), AllocError>
+pub fn print_constant(
+    out: &mut String,
+    chart: &str,
+    of: CType,
+    number: i128,
+) -> Result<(), AllocError>
     ensures { OnOk result
         (string_bytes out.new ≡ string_bytes out.old ++ spec.constant_text chart.now of number) }
 {
@@ -62,7 +67,12 @@ fn print_whole(out: &mut String, chart: &str, of: CType, number: i128) -> Result
 
 /// Appends a number below 0 of that magnitude.
 #[tactic(auto, unfolding(crate::specs::Types::negative_text))]
-fn print_negative(out: &mut String, chart: &str, of: CType, magnitude: u128) -> Result<(), AllocError>
+fn print_negative(
+    out: &mut String,
+    chart: &str,
+    of: CType,
+    magnitude: u128,
+) -> Result<(), AllocError>
     ensures { OnOk result
         (string_bytes out.new ≡ string_bytes out.old ++ spec.negative_text chart.now of magnitude) }
 {
@@ -112,7 +122,9 @@ fn print_magnitude(out: &mut String, chart: &str, of: CType, number: u128) -> Re
         CType::Unsigned(Width::W8 | Width::W16 | Width::W32) => print_between(out, "", number, "u"),
         CType::Signed(Width::W64) => print_between(out, "INT64_C(", number, ")"),
         CType::Unsigned(Width::W64) => print_between(out, "UINT64_C(", number, ")"),
-        CType::Signed(Width::W128) | CType::Unsigned(Width::W128) => print_parts(out, chart, of, number),
+        CType::Signed(Width::W128) | CType::Unsigned(Width::W128) => print_parts(
+            out, chart, of, number,
+        ),
     }
 }
 

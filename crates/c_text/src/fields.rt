@@ -90,11 +90,7 @@ fn print_state_label(out: &mut String, labels: &Labels<'_>, place: usize) -> Res
 }
 
 /// Appends the type of a field.
-pub fn print_field_type(
-    out: &mut String,
-    labels: &Labels<'_>,
-    field: u32,
-) -> Result<(), AllocError>
+pub fn print_field_type(out: &mut String, labels: &Labels<'_>, field: u32) -> Result<(), AllocError>
     ensures { OnOk result (string_bytes out.new ≡ string_bytes out.old
         ++ type_text (spec.labels_of labels.now).chart
         (spec.type_of_field (spec.labels_of labels.now) field)) }

@@ -7,7 +7,8 @@ A case is a chart of random_charts.py with an event file. flowwhy explains whate
 must be that of PROGRAM's line. Of an accepted chart flowlint gives its warnings, and then the chart runs over random event files
 by the rules: no transition may be enabled that flowlint calls never taken, no state be entered and no junction with transitions
 be visited that it calls never reached; a search that comes to a junction which it calls endless must end with a fault. flowtrace
-must give back each trace. It writes counts, and ends with status 1 where anything is wrong."""
+must give back each trace. flowfmt lays out another random chart with random comments. It writes counts, and ends with status 1
+where anything is wrong."""
 import os
 import random
 import sys
@@ -18,6 +19,7 @@ sys.path.insert(0, os.path.join(os.path.dirname(os.path.abspath(__file__)), '..'
 import chart_rules as rules                                                       # noqa: E402
 import programs                                                                   # noqa: E402
 from chart_syntax import WITH_HISTORY                                             # noqa: E402
+from checking.layout_rows import wrong_random                                      # noqa: E402
 from checking.trace_rows import round_trip                                        # noqa: E402
 from lint.cycles import endless                                                   # noqa: E402
 from lint.dead import never_taken                                                 # noqa: E402
@@ -105,6 +107,9 @@ def main():
             if chart:
                 counts['accepted'] += 1
                 found += wrong_runs(text, chart, '%s %d' % (given.seed, place), depth, steps, given.runs, counts)
+            wrong_layout, readable = wrong_random('%s %d' % (given.seed, place))
+            counts['layouts'] += readable
+            found.append(wrong_layout)
             for each in filter(None, dict.fromkeys(found)):
                 print('case %d: %s' % (place, each), flush=True)
                 wrong += 1

@@ -2,7 +2,7 @@
 import sys
 
 from checking import Wrong, blocks_of, differences, text_of, written_again
-from checking import lint_rows, trace_rows, why_rows
+from checking import layout_rows, lint_rows, trace_rows, why_rows
 from checking.commands import wrong_calls
 from checking.pages import wrong_cases, wrong_recipes
 
@@ -12,7 +12,7 @@ ROWS_OF_WHY = 100           # flowwhy is checked over at least so many texts
 def answers(program):
     """What answers each table."""
     return {why_rows.TABLE: lambda block: why_rows.why_answer(program, block), lint_rows.TABLE: lint_rows.lint_answer,
-            trace_rows.TABLE: trace_rows.trace_answer}
+            trace_rows.TABLE: trace_rows.trace_answer, layout_rows.TABLE: layout_rows.layout_answer}
 
 
 def parts(program):
@@ -33,6 +33,9 @@ def parts(program):
     none = [] if examples else ['no example']
     yield 'warnings on the examples', '%d charts' % len(examples), lint_rows.wrong_examples() + none
     yield 'round trips of the traces', '%d traces' % len(examples), trace_rows.wrong_round_trips(examples) + none
+    yield 'layouts of the examples', '%d charts' % len(examples), layout_rows.wrong_examples(program, examples) + none
+    lines, seen = layout_rows.wrong_random_layouts()
+    yield 'layouts of random charts', '%d charts' % seen, lines
     lines, seen = wrong_cases()
     yield 'cases of docs/SEMANTICS.md', '%d cases' % seen, lines
     lines, seen = wrong_recipes(program)

@@ -44,6 +44,17 @@ CALLS = [
     ('flowtrace show LAMPchart wanted', 1, '', 'wanted:1:1: error: BadLine: '),
     ('flowtrace show LAMPchart nothing', 4, '', 'nothing:1:1: error: ReadFault: '),
     ('flowtrace show LAMPchart', 2, '', 'usage: flowtrace'),
+    ('flowfmt LAMPchart', 0, 'chart Lamp or {\n  event input GO;\n', ''),
+    ('flowfmt dead.chart', 0, 'chart C or {\n  default -> A;\n', ''),
+    ('flowfmt --check dead.chart LAMPchart', 8, 'dead.chart: another layout\n', ''),
+    ('flowfmt --in-place dead.chart LAMPchart', 0, '', ''),
+    ('flowfmt --check dead.chart LAMPchart', 0, '', ''),
+    ('flowfmt wrong.chart', 1, '', 'chart 1:44: 3 Expected\nwrong.chart: the text is refused'),
+    ('flowfmt nothing.chart', 4, '', 'nothing.chart:1:1: error: ReadFault: '),
+    ('flowfmt dead.chart --program nothing', 127, '', 'flowfmt: --program names nothing'),
+    ('flowfmt dead.chart --program FALSE', 1, '', 'flowfmt: dead.chart: without its comments it isn\'t what '),
+    ('flowfmt dead.chart LAMPchart', 2, '', 'usage: flowfmt'),
+    ('flowfmt - --in-place', 2, '', 'usage: flowfmt'),
 ]
 
 
@@ -55,7 +66,7 @@ def wrong_calls(program):
             with open(os.path.join(folder, name), 'w', encoding='ascii') as file:
                 file.write(text)
         for words, status, out, error in CALLS:
-            tool, *rest = words.replace('LAMP', LAMP).split(' ')
+            tool, *rest = words.replace('LAMP', LAMP).replace('FALSE', '/bin/false').split(' ')
             done = subprocess.run([sys.executable, os.path.join(VIEW, tool), *rest], cwd=folder, capture_output=True, check=False,
                                   stdin=subprocess.DEVNULL, env={**os.environ, 'FLOWC': program, 'COLUMNS': '80'})
             got_out, got_error = done.stdout.decode('latin-1'), done.stderr.decode('latin-1')

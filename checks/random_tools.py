@@ -7,8 +7,8 @@ A case is a chart of random_charts.py with an event file. flowwhy explains whate
 must be that of PROGRAM's line. Of an accepted chart flowlint gives its warnings, and then the chart runs over random event files
 by the rules: no transition may be enabled that flowlint calls never taken, no state be entered and no junction with transitions
 be visited that it calls never reached; a search that comes to a junction which it calls endless must end with a fault. flowtrace
-must give back each trace. flowfmt lays out another random chart with random comments. It writes counts, and ends with status 1
-where anything is wrong."""
+must give back each trace. flowls is asked at random places of the text, which may be cut. flowfmt lays out another random chart
+with random comments. It writes counts, and ends with status 1 where anything is wrong."""
 import os
 import random
 import sys
@@ -20,6 +20,7 @@ import chart_rules as rules                                                     
 import programs                                                                   # noqa: E402
 from chart_syntax import WITH_HISTORY                                             # noqa: E402
 from checking.layout_rows import wrong_random                                      # noqa: E402
+from checking.server_rows import wrong_answers                                    # noqa: E402
 from checking.trace_rows import round_trip                                        # noqa: E402
 from lint.cycles import endless                                                   # noqa: E402
 from lint.dead import never_taken                                                 # noqa: E402
@@ -91,6 +92,14 @@ def wrong_explanation(program, folder, text, data, depth, steps, counts):
     return None
 
 
+def wrong_server(text, choices):
+    """What is wrong with the answers of flowls about a text, which may be cut at a random place."""
+    if choices.random() < 0.5:
+        first = choices.randrange(len(text) + 1)
+        text = text[:first] + text[first + choices.choice([1, 5, len(text)]):]
+    return wrong_answers(text, choices)
+
+
 def main():
     parser = programs.parser(__doc__)
     parser.add_argument('--cases', type=programs.at_least_one, default=1000)
@@ -107,6 +116,7 @@ def main():
             if chart:
                 counts['accepted'] += 1
                 found += wrong_runs(text, chart, '%s %d' % (given.seed, place), depth, steps, given.runs, counts)
+            found += wrong_server(text, random.Random('%s %d server' % (given.seed, place)))
             wrong_layout, readable = wrong_random('%s %d' % (given.seed, place))
             counts['layouts'] += readable
             found.append(wrong_layout)

@@ -2,7 +2,7 @@
 import sys
 
 from checking import Wrong, blocks_of, differences, text_of, written_again
-from checking import layout_rows, lint_rows, trace_rows, why_rows
+from checking import layout_rows, lint_rows, server_rows, trace_rows, why_rows
 from checking.commands import wrong_calls
 from checking.pages import wrong_cases, wrong_recipes
 
@@ -12,7 +12,8 @@ ROWS_OF_WHY = 100           # flowwhy is checked over at least so many texts
 def answers(program):
     """What answers each table."""
     return {why_rows.TABLE: lambda block: why_rows.why_answer(program, block), lint_rows.TABLE: lint_rows.lint_answer,
-            trace_rows.TABLE: trace_rows.trace_answer, layout_rows.TABLE: layout_rows.layout_answer}
+            trace_rows.TABLE: trace_rows.trace_answer, layout_rows.TABLE: layout_rows.layout_answer,
+            server_rows.TABLE: server_rows.server_answer}
 
 
 def parts(program):
@@ -23,6 +24,8 @@ def parts(program):
         lines = [line for block in blocks[name] for line in differences(block, answer(block))]
         if name == lint_rows.TABLE:
             lines += lint_rows.kinds_without_rows(blocks[name])
+        if name == server_rows.TABLE:
+            lines += server_rows.words_without_rows(blocks[name])
         if name == why_rows.TABLE and len(blocks[name]) < ROWS_OF_WHY:
             lines.append('under %d rows' % ROWS_OF_WHY)
         yield name, '%d rows' % len(blocks[name]), lines
@@ -36,6 +39,8 @@ def parts(program):
     yield 'layouts of the examples', '%d charts' % len(examples), layout_rows.wrong_examples(program, examples) + none
     lines, seen = layout_rows.wrong_random_layouts()
     yield 'layouts of random charts', '%d charts' % seen, lines
+    lines, seen = server_rows.wrong_talks()
+    yield 'sessions of flowls', '%d sessions' % seen, lines
     lines, seen = wrong_cases()
     yield 'cases of docs/SEMANTICS.md', '%d cases' % seen, lines
     lines, seen = wrong_recipes(program)

@@ -2,9 +2,10 @@
 import sys
 
 from checking import Wrong, blocks_of, differences, text_of, written_again
-from checking import layout_rows, lint_rows, server_rows, trace_rows, why_rows
+from checking import layout_rows, lint_rows, needs_rows, server_rows, trace_rows, why_rows
 from checking.commands import wrong_calls
 from checking.pages import wrong_cases, wrong_recipes
+from common.program import find_chart_to_c
 
 ROWS_OF_WHY = 100           # flowwhy is checked over at least so many texts
 
@@ -13,7 +14,7 @@ def answers(program):
     """What answers each table."""
     return {why_rows.TABLE: lambda block: why_rows.why_answer(program, block), lint_rows.TABLE: lint_rows.lint_answer,
             trace_rows.TABLE: trace_rows.trace_answer, layout_rows.TABLE: layout_rows.layout_answer,
-            server_rows.TABLE: server_rows.server_answer}
+            server_rows.TABLE: server_rows.server_answer, needs_rows.TABLE: needs_rows.needs_answer}
 
 
 def parts(program):
@@ -41,6 +42,8 @@ def parts(program):
     yield 'layouts of random charts', '%d charts' % seen, lines
     lines, seen = server_rows.wrong_talks()
     yield 'sessions of flowls', '%d sessions' % seen, lines
+    lines, seen = needs_rows.wrong_functions(find_chart_to_c(None), examples)
+    yield 'parts of which functions are', '%d functions' % seen, lines
     lines, seen = wrong_cases()
     yield 'cases of docs/SEMANTICS.md', '%d cases' % seen, lines
     lines, seen = wrong_recipes(program)

@@ -14,7 +14,13 @@ FILES = {
     'wanted': 'start [Off]\nGO [On]\nGO [Off]\ntick\n',
     'other': 'start [Off]\nGO [On]\nGO\n',
     'ticks': 'tick\n',
+    'tied.chart': '// @req R-1\nchart C { // @req R-2 R-3: the start\n default -> A;\n state A { } // @req R-2\n}\n',
+    'all.chart': 'chart C { // @req R-2\n default -> A; // @req R-2\n state A { } // @req R-2\n}\n',
+    'untied.chart': 'chart C { default -> A; state A { }\n// @req R-2\n}\n',
+    'known': 'R-2\nR-4\n',
+    'tied.c': '/* entering A */\nstatic uint32_t p7(C_chart *m)\n{\n    return 0;\n}\n',
 }
+MATRIX = 'requirement,chart,kind,part,text,place,functions,tests\n'
 # The words, the status, how standard output begins, and how standard error begins.
 CALLS = [
     ('flowwhy wrong.chart', 1, '', 'chart 1:44: 3 Expected\nwrong.chart:1:44: error: Expected: '),
@@ -44,6 +50,17 @@ CALLS = [
     ('flowtrace show LAMPchart wanted', 1, '', 'wanted:1:1: error: BadLine: '),
     ('flowtrace show LAMPchart nothing', 4, '', 'nothing:1:1: error: ReadFault: '),
     ('flowtrace show LAMPchart', 2, '', 'usage: flowtrace'),
+    ('flowreq tied.chart --c tied.c', 0, MATRIX + 'R-1,C,chart,C,,tied.chart:2:1,,\n',
+     '3 requirements, 2 parts tied\ntied.chart:3:2: the transition the chart, default 1 has no requirement\n'),
+    ('flowreq tied.chart --c tied.c --strict', 8, MATRIX, '3 requirements, 2 parts tied\n'),
+    ('flowreq all.chart --c tied.c --strict', 0, MATRIX + 'R-2,C,chart,C,,all.chart:1:1,,\n', '1 requirement, 3 parts tied\n'),
+    ('flowreq all.chart --c tied.c --requirements known --strict', 8, MATRIX, '1 requirement, 3 parts tied\nR-4: no part has'),
+    ('flowreq untied.chart --c tied.c', 1, '', 'untied.chart:2:1: error: TiesNothing: '),
+    ('flowreq all.chart --c tied.c --tests .', 4, '', './coverage.json:1:1: error: ReadFault: '),
+    ('flowreq wrong.chart --c tied.c', 1, '', 'chart 1:44: 3 Expected\nwrong.chart: the chart is refused'),
+    ('flowreq all.chart tied.chart --c tied.c', 2, '', 'usage: flowreq'),
+    ('flowreq all.chart --chart-to-c nothing', 127, '', 'flowreq: --chart-to-c names nothing'),
+    ('flowreq all.chart --chart-to-c FALSE', 1, '', '/bin/false source all.chart: '),
     ('flowfmt LAMPchart', 0, 'chart Lamp or {\n  event input GO;\n', ''),
     ('flowfmt dead.chart', 0, 'chart C or {\n  default -> A;\n', ''),
     ('flowfmt --check dead.chart LAMPchart', 8, 'dead.chart: another layout\n', ''),

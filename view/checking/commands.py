@@ -56,7 +56,7 @@ CALLS = [
     ('flowreq all.chart --c tied.c --strict', 0, MATRIX + 'R-2,C,chart,C,,all.chart:1:1,,\n', '1 requirement, 3 parts tied\n'),
     ('flowreq all.chart --c tied.c --requirements known --strict', 8, MATRIX, '1 requirement, 3 parts tied\nR-4: no part has'),
     ('flowreq untied.chart --c tied.c', 1, '', 'untied.chart:2:1: error: TiesNothing: '),
-    ('flowreq all.chart --c tied.c --tests .', 4, '', './coverage.json:1:1: error: ReadFault: '),
+    ('flowreq all.chart --c tied.c --tests .', 4, '', './all.coverage.json:1:1: error: ReadFault: '),
     ('flowreq wrong.chart --c tied.c', 1, '', 'chart 1:44: 3 Expected\nwrong.chart: the chart is refused'),
     ('flowreq all.chart tied.chart --c tied.c', 2, '', 'usage: flowreq'),
     ('flowreq all.chart --chart-to-c nothing', 127, '', 'flowreq: --chart-to-c names nothing'),

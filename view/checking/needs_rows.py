@@ -1,7 +1,7 @@
 """What flowreq writes of the charts of needs_table.txt.
 
-`chart TEXT` is an accepted chart, `source TEXT` the C with its comments, where there is any, and `coverage TEXT` the file
-`coverage.json` of a folder of tests. An answer has a line for each row of the matrix, with ` | ` between what stands in it, or for
+`chart TEXT` is an accepted chart, `source TEXT` the C with its comments, where there is any, and `coverage TEXT` the file that
+flowtests writes of a folder of tests. An answer has a line for each row of the matrix, with ` | ` between what stands in it, or for
 each tie that is wrong its place and what is said of it."""
 import os
 import tempfile
@@ -13,7 +13,7 @@ from layout.written import formatted
 from needs.functions import functions_of, says
 from needs.matrix import rows_of
 from needs.page import requirements_in_page
-from needs.tests import FILE, NotCoverage, covered
+from needs.tests import NotCoverage, covered
 from needs.ties import ties_of
 
 TABLE = 'needs_table.txt'
@@ -46,9 +46,9 @@ def needs_answer(block):
 
 def places_of(text, coverage):
     with tempfile.TemporaryDirectory() as folder:
-        with open(os.path.join(folder, FILE), 'w', encoding='latin-1') as file:
+        with open(os.path.join(folder, 'the.coverage.json'), 'w', encoding='latin-1') as file:
             file.write(coverage)
-        return covered(folder, text)
+        return covered(folder, '../the.chart', text)
 
 
 def wrong_functions(chart_to_c, examples):

@@ -2,7 +2,7 @@
 import sys
 
 from checking import Wrong, blocks_of, differences, text_of, written_again
-from checking import layout_rows, lint_rows, needs_rows, server_rows, trace_rows, why_rows
+from checking import layout_rows, lint_rows, needs_rows, product_rows, server_rows, trace_rows, why_rows
 from checking.commands import wrong_calls
 from checking.pages import wrong_cases, wrong_recipes
 from common.program import find_chart_to_c
@@ -42,8 +42,13 @@ def parts(program):
     yield 'layouts of random charts', '%d charts' % seen, lines
     lines, seen = server_rows.wrong_talks()
     yield 'sessions of flowls', '%d sessions' % seen, lines
-    lines, seen = needs_rows.wrong_functions(find_chart_to_c(None), examples)
+    chart_to_c = find_chart_to_c(None)
+    lines, seen = needs_rows.wrong_functions(chart_to_c, examples)
     yield 'parts of which functions are', '%d functions' % seen, lines
+    lines, seen = product_rows.wrong_names(chart_to_c)
+    yield 'names read back against the C', '%d lines' % seen, lines
+    lines, seen = product_rows.wrong_units(chart_to_c)
+    yield 'units of co-simulation', '%d lines' % seen, lines
     lines, seen = wrong_cases()
     yield 'cases of docs/SEMANTICS.md', '%d cases' % seen, lines
     lines, seen = wrong_recipes(program)

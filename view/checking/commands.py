@@ -7,6 +7,24 @@ import tempfile
 from common import CHECKOUT, VIEW
 
 LAMP = os.path.join(CHECKOUT, 'examples', 'lamp', 'lamp.')
+LAMP_HEADER = '''enum { Lamp_E_GO = 0 };
+enum { Lamp_TICK = 1 };
+enum { Lamp_FAULT_NONE = 0 };
+typedef struct {
+    uint32_t fault; /* its fault */
+    uint16_t child_0; /* the active child of Lamp: 2 Off, 3 On */
+} Lamp_chart;
+/* Whether Off is active. */
+static inline bool Lamp_in_Off(const Lamp_chart *m)
+{
+    return m->child_0 == (uint16_t)2u;
+}
+/* Whether On is active. */
+static inline bool Lamp_in_On(const Lamp_chart *m)
+{
+    return m->child_0 == (uint16_t)3u;
+}
+'''
 FILES = {
     'wrong.chart': 'chart C { default -> A; state A { entry { x++; } } }\n',
     'dead.chart': 'chart C { default -> A; state A { outer -> A; outer -> A; } }\n',
@@ -18,6 +36,7 @@ FILES = {
     'all.chart': 'chart C { // @req R-2\n default -> A; // @req R-2\n state A { } // @req R-2\n}\n',
     'untied.chart': 'chart C { default -> A; state A { }\n// @req R-2\n}\n',
     'known': 'R-2\nR-4\n',
+    'lamp.h': LAMP_HEADER,
     'tied.c': '/* entering A */\nstatic uint32_t p7(C_chart *m)\n{\n    return 0;\n}\n',
 }
 MATRIX = 'requirement,chart,kind,part,text,place,functions,tests\n'
@@ -61,6 +80,19 @@ CALLS = [
     ('flowreq all.chart tied.chart --c tied.c', 2, '', 'usage: flowreq'),
     ('flowreq all.chart --chart-to-c nothing', 127, '', 'flowreq: --chart-to-c names nothing'),
     ('flowreq all.chart --chart-to-c FALSE', 1, '', '/bin/false source all.chart: '),
+    ('flownames LAMPchart --header lamp.h', 0, '{\n  "chart": "Lamp",\n  "prefix": "Lamp",\n', ''),
+    ('flownames LAMPchart --header lamp.h --as c', 0, '/* Names of the chart Lamp, ', ''),
+    ('flownames LAMPchart --header lamp.h --as a2l', 0, 'ASAP2_VERSION 1 60\n', ''),
+    ('flownames dead.chart --header lamp.h', 1, '', 'the header isn\'t the chart\'s: its states are not those of the chart\n'),
+    ('flownames dead.chart --header known', 1, '', 'the header isn\'t the chart\'s: it has no struct of a chart\n'),
+    ('flownames wrong.chart --header lamp.h', 1, '', 'chart 1:44: 3 Expected\nwrong.chart: the chart is refused'),
+    ('flownames LAMPchart --header nothing', 4, '', 'nothing:1:1: error: ReadFault: '),
+    ('flownames LAMPchart --as xml', 2, '', 'usage: flownames'),
+    ('flownames LAMPchart --symbol 1x', 2, '', 'usage: flownames'),
+    ('flowfmu wrong.chart -o made.fmu', 1, '', 'chart 1:44: 3 Expected\nwrong.chart: the chart is refused'),
+    ('flowfmu dead.chart -o made.fmu --chart-to-c FALSE', 1, '', '/bin/false header dead.chart: '),
+    ('flowfmu dead.chart -o made.fmu --chart-to-c nothing', 127, '', 'flowfmu: --chart-to-c names nothing'),
+    ('flowfmu dead.chart', 2, '', 'usage: flowfmu'),
     ('flowfmt LAMPchart', 0, 'chart Lamp or {\n  event input GO;\n', ''),
     ('flowfmt dead.chart', 0, 'chart C or {\n  default -> A;\n', ''),
     ('flowfmt --check dead.chart LAMPchart', 8, 'dead.chart: another layout\n', ''),

@@ -2,10 +2,10 @@
 import sys
 
 from checking import Wrong, blocks_of, differences, text_of, written_again
-from checking import layout_rows, lint_rows, needs_rows, product_rows, server_rows, trace_rows, why_rows
+from checking import lint_rows, trace_rows, why_rows
+from checking import desk
 from checking.commands import wrong_calls
 from checking.pages import wrong_cases, wrong_recipes
-from common.program import find_chart_to_c
 
 ROWS_OF_WHY = 100           # flowwhy is checked over at least so many texts
 
@@ -13,8 +13,7 @@ ROWS_OF_WHY = 100           # flowwhy is checked over at least so many texts
 def answers(program):
     """What answers each table."""
     return {why_rows.TABLE: lambda block: why_rows.why_answer(program, block), lint_rows.TABLE: lint_rows.lint_answer,
-            trace_rows.TABLE: trace_rows.trace_answer, layout_rows.TABLE: layout_rows.layout_answer,
-            server_rows.TABLE: server_rows.server_answer, needs_rows.TABLE: needs_rows.needs_answer}
+            trace_rows.TABLE: trace_rows.trace_answer, **desk.ANSWERS}
 
 
 def parts(program):
@@ -25,8 +24,7 @@ def parts(program):
         lines = [line for block in blocks[name] for line in differences(block, answer(block))]
         if name == lint_rows.TABLE:
             lines += lint_rows.kinds_without_rows(blocks[name])
-        if name == server_rows.TABLE:
-            lines += server_rows.words_without_rows(blocks[name])
+        lines += desk.missing_rows(name, blocks[name])
         if name == why_rows.TABLE and len(blocks[name]) < ROWS_OF_WHY:
             lines.append('under %d rows' % ROWS_OF_WHY)
         yield name, '%d rows' % len(blocks[name]), lines
@@ -37,18 +35,7 @@ def parts(program):
     none = [] if examples else ['no example']
     yield 'warnings on the examples', '%d charts' % len(examples), lint_rows.wrong_examples() + none
     yield 'round trips of the traces', '%d traces' % len(examples), trace_rows.wrong_round_trips(examples) + none
-    yield 'layouts of the examples', '%d charts' % len(examples), layout_rows.wrong_examples(program, examples) + none
-    lines, seen = layout_rows.wrong_random_layouts()
-    yield 'layouts of random charts', '%d charts' % seen, lines
-    lines, seen = server_rows.wrong_talks()
-    yield 'sessions of flowls', '%d sessions' % seen, lines
-    chart_to_c = find_chart_to_c(None)
-    lines, seen = needs_rows.wrong_functions(chart_to_c, examples)
-    yield 'parts of which functions are', '%d functions' % seen, lines
-    lines, seen = product_rows.wrong_names(chart_to_c)
-    yield 'names read back against the C', '%d lines' % seen, lines
-    lines, seen = product_rows.wrong_units(chart_to_c)
-    yield 'units of co-simulation', '%d lines' % seen, lines
+    yield from desk.parts(program, examples)
     lines, seen = wrong_cases()
     yield 'cases of docs/SEMANTICS.md', '%d cases' % seen, lines
     lines, seen = wrong_recipes(program)

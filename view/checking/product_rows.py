@@ -1,7 +1,7 @@
 """What flownames and flowfmu write of examples, read back against the C and run against the kept traces.
 
-The C of a chart runs over the events and inputs of its trace, and writes the bytes of the struct after each; the ASAP2 file tells what
-stands in them, which must be what the trace has. The header in C is compiled with it, and writes what it says. The unit of
+The C of a chart runs over the events and inputs of its trace, and writes the bytes of the struct after each; the ASAP2 file tells
+what stands in them, which must be what the trace has. The header in C is compiled with it, and writes what it says. The unit of
 co-simulation runs over the same, by the loader of unit.py."""
 import json
 import os

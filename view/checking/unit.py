@@ -19,8 +19,8 @@ ATTRIBUTES = {
     'SourceFiles': set(), 'File': {'name'}, 'LogCategories': set(), 'Category': {'name'}, 'ModelVariables': set(),
     'ModelStructure': set(), 'Outputs': set(), 'InitialUnknowns': set()}
 FUNCTIONS = ('GetTypesPlatform GetVersion SetDebugLogging Instantiate FreeInstance SetupExperiment EnterInitializationMode '
-             'ExitInitializationMode Terminate Reset GetReal GetInteger GetBoolean GetString SetReal SetInteger SetBoolean SetString '
-             'GetFMUstate SetFMUstate FreeFMUstate SerializedFMUstateSize SerializeFMUstate DeSerializeFMUstate '
+             'ExitInitializationMode Terminate Reset GetReal GetInteger GetBoolean GetString SetReal SetInteger SetBoolean '
+             'SetString GetFMUstate SetFMUstate FreeFMUstate SerializedFMUstateSize SerializeFMUstate DeSerializeFMUstate '
              'GetDirectionalDerivative SetRealInputDerivatives GetRealOutputDerivatives DoStep CancelStep GetStatus GetRealStatus '
              'GetIntegerStatus GetBooleanStatus GetStringStatus').split(' ')
 
@@ -87,7 +87,8 @@ class Unit:
 
 def description_faults(tree):
     """What is wrong with a description by the words of the standard: elements and attributes, references, starts, the structure."""
-    lines = ['%s has %s' % (each.tag, name) for each in tree.iter() for name in each.attrib if name not in ATTRIBUTES.get(each.tag, ())]
+    lines = ['%s has %s' % (each.tag, name) for each in tree.iter() for name in each.attrib
+             if name not in ATTRIBUTES.get(each.tag, ())]
     lines += ['there is an element %s' % each.tag for each in tree.iter() if each.tag not in ATTRIBUTES]
     order = [each.tag for each in tree]
     if order != ['CoSimulation', 'LogCategories', 'ModelVariables', 'ModelStructure']:

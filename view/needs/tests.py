@@ -1,9 +1,9 @@
-"""What the tests of a folder cover, as flowtests writes it to the file `NAME.coverage.json` of the folder, where NAME is that of the
-chart's file.
+"""What the tests of a folder cover, as flowtests writes it to the file `NAME.coverage.json` of the folder, where NAME is that of
+the chart's file.
 
-The file is an object. Its list `goals` has an object for each thing that there is to cover, with its place in the chart as `line` and
-`column`, which count from 1, and the list `covered` of the places at which it comes, each an object whose `events` names the event
-file. What else is there isn't read."""
+The file is an object. Its list `goals` has an object for each thing that there is to cover, with its place in the chart as `line`
+and `column`, which count from 1, and the list `covered` of the places at which it comes, each an object whose `events` names the
+event file. What else is there isn't read."""
 import json
 import os
 

@@ -2,8 +2,8 @@
 
 `// @req NAME NAME ..` ties each name to the part to which the comment belongs, as layout/comments.py says. Behind a closing brace
 it ties what the brace closes, and before one, at the end of the text, or in an empty block it ties nothing. A name has letters,
-digits, `_`, `-`, `.` and `/`, begins with a letter or a digit and has a digit; commas may stand between names, and a colon ends them:
-what stands behind it is for readers alone."""
+digits, `_`, `-`, `.` and `/`, begins with a letter or a digit and has a digit; commas may stand between names, and a colon ends
+them: what stands behind it is for readers alone."""
 import re
 from typing import NamedTuple
 

@@ -1,5 +1,5 @@
-"""Writes what a calibration tool reads of a chart's struct: a file of ASAP2, version 1.6, with a measurement for each datum, for the
-active child of each OR, for each state that is a bit, and for the fault.
+"""Writes what a calibration tool reads of a chart's struct: a file of ASAP2, version 1.6, with a measurement for each datum, for
+the active child of each OR, for each state that is a bit, and for the fault.
 
 Addresses are those of fields that are aligned to their sizes, from the address of the struct on; the header that flownames writes
 lets a C compiler refuse another layout."""
@@ -24,16 +24,16 @@ class Writer:
             self.datum(datum)
         for field, parent, children in self.interface.children():
             rows = {0: 'none', **children}
-            self.measurement('child.' + parent.replace('/', '.'), 'active child of %s' % parent, field, self.words(field.name, rows),
-                             0, max(rows))
+            self.measurement('child.' + parent.replace('/', '.'), 'active child of %s' % parent, field,
+                             self.words(field.name, rows), 0, max(rows))
         for state in self.table['states']:
             if state['bits']:
                 field = self.interface.field(state['field'])
                 self.measurement('in.' + state['path'].replace('/', '.'), 'whether %s is active' % state['path'], field,
                                  self.words('flag', {0: 'false', 1: 'true'}), 0, 1, ' BIT_MASK 0x%X' % state['bits'])
         faults = {each['number']: each['name'] for each in self.table['faults']}
-        self.measurement('chart.fault', 'the fault that ended the run', self.interface.field('fault'), self.words('fault', faults), 0,
-                         max(faults))
+        self.measurement('chart.fault', 'the fault that ended the run', self.interface.field('fault'),
+                         self.words('fault', faults), 0, max(faults))
         return self.file()
 
     def datum(self, datum):

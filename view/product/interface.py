@@ -7,7 +7,8 @@ import common                                # noqa: F401, which finds the folde
 ENUM = re.compile(r'enum \{ (\w+) = (\d+) \};')
 STRUCT = re.compile(r'typedef struct \{\n(.*?)\n\} (\w+)_chart;', re.DOTALL)
 FIELD = re.compile(r'\s*(\w+) (\w+)(?:\[(\d+)\])?; /\* (.*?) \*/', re.DOTALL)
-TEST = re.compile(r'/\* Whether ([\w/]+) is active\. \*/\nstatic inline bool (\w+)\(const \w+ \*m\)\n\{\n    return (.*?);\n\}', re.DOTALL)
+TEST = re.compile(r'/\* Whether ([\w/]+) is active\. \*/\nstatic inline bool (\w+)\(const \w+ \*m\)\n\{\n    return (.*?);\n\}',
+                  re.DOTALL)
 CHILDREN = re.compile(r'the active child of ([\w/]+): (.*)', re.DOTALL)
 BIT = re.compile(r'\(m->(flags_\d+) & (\d+)u\) != 0u')
 SIZES = {'bool': 1, **{'%sint%d_t' % (sign, bits): bits // 8 for sign in ('', 'u') for bits in (8, 16, 32, 64)}}
@@ -18,8 +19,8 @@ class NoHeader(Exception):
 
 
 class Field(NamedTuple):
-    """A field of the struct: its type in C, its name, how many entries it has where it is an array, its comment, and where it stands
-    where each field is aligned to its size, as on ARM, RISC-V and x86-64."""
+    """A field of the struct: its type in C, its name, how many entries it has where it is an array, its comment, and where it
+    stands where each field is aligned to its size, as on ARM, RISC-V and x86-64."""
     type: str
     name: str
     length: Optional[int]
@@ -69,7 +70,8 @@ class Interface:
         return found
 
     def children(self):
-        """For each field with an active child the path of the state whose child it is, and the names of children by their numbers."""
+        """For each field with an active child the path of the state whose child it is, and the names of children by their
+        numbers."""
         for field in self.fields:
             found = CHILDREN.fullmatch(' '.join(field.comment.split()))
             if found:

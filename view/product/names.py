@@ -91,7 +91,8 @@ def header_text(table, interface):
              '#ifndef FLOW_%s_NAMES_H' % p, '#define FLOW_%s_NAMES_H' % p, '', '#include "%s.h"' % table['chart'],
              '#include <stddef.h>', '', STRUCTS.format(p=p)]
     for what in ('events', 'faults'):
-        lines += array('number', p, what, ['{"%s", %s}' % (each['name'], each['constant']) for each in table[what] if each['constant']])
+        lines += array('number', p, what, ['{"%s", %s}' % (each['name'], each['constant'])
+                                           for each in table[what] if each['constant']])
     lines += array('datum', p, 'data', ['{"%s", "%s", "%s", %r, %r, %r, offsetof(%s_chart, %s), sizeof(%s)}' % (
         each['name'], each['kind'], each['type'], each['step'], each['least'], each['greatest'], p, each['field'], each['c_type'])
         for each in table['data']] or ['{NULL, NULL, NULL, 0.0, 0.0, 0.0, 0, 0}'])
@@ -99,8 +100,8 @@ def header_text(table, interface):
     numbers = ['%s == %d' % (each['constant'], each['number']) for each in [*table['events'], *table['faults']] if each['constant']]
     places = ['offsetof(%s_chart, %s) == %d' % (p, each.name, each.offset) for each in interface.fields]
     checks = ' &&\n    '.join(['sizeof(%s_chart) == %d' % (p, table['size']), *places, *numbers])
-    lines += ['/* C refuses this type where the chart\'s header has other numbers, or where the struct has another layout than the one',
-              '   that flownames writes for calibration tools. */',
+    lines += ['/* C refuses this type where the header of the chart has other numbers, or where the struct has another layout than',
+              '   the one that flownames writes for calibration tools. */',
               'typedef char %s_names_fit[(%s) ? 1 : -1];' % (p, checks), '', '#endif']
     return '\n'.join(lines) + '\n'
 

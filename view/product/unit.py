@@ -1,9 +1,9 @@
 """A chart as a unit of co-simulation by the Functional Mock-up Interface 2.0: its description in XML, and its tables in C.
 
-Inputs of the chart are inputs, and so is each input event and `tick`, as a number that counts: where it has grown since the last step
-the event is processed so many times, in the order of the chart, and `tick` last. Outputs are outputs, and so is each output event, as
-a number that counts. Local data and states are there to look at, a state as `in(PATH)`, and `fault.number` is 0 or the fault that
-ended the run."""
+Inputs of the chart are inputs, and so is each input event and `tick`, as a number that counts: where it has grown since the last
+step the event is processed so many times, in the order of the chart, and `tick` last. Outputs are outputs, and so is each output
+event, as a number that counts. Local data and states are there to look at, a state as `in(PATH)`, and `fault.number` is 0 or the
+fault that ended the run."""
 import hashlib
 from typing import NamedTuple, Optional
 from xml.sax.saxutils import quoteattr
@@ -15,8 +15,8 @@ LEAST, GREATEST = -2 ** 31, 2 ** 31 - 1
 
 
 class Variable(NamedTuple):
-    """A variable: its name, its type, what it is to others, what is said of it, its first value where it is an input, its ends where
-    it is a number of a datum, and what it is in the C: a kind and a place."""
+    """A variable: its name, its type, what it is to others, what is said of it, its first value where it is an input, its ends
+    where it is a number of a datum, and what it is in the C: a kind and a place."""
     name: str
     type: str
     causality: str
@@ -34,8 +34,8 @@ def variables_of(table):
     found += [Variable(each['name'], INTEGER, 'input', 'how often the event %s came' % each['name'], 0, None, 'EVENT', place)
               for place, each in enumerate(taken(table))]
     found += [each for each in data if each.causality == 'output']
-    found += [Variable(each['name'], INTEGER, 'output', 'how often the event %s was emitted' % each['name'], None, None, 'OUTPUT', place)
-              for place, each in enumerate(emitted(table))]
+    found += [Variable(each['name'], INTEGER, 'output', 'how often the event %s was emitted' % each['name'], None, None, 'OUTPUT',
+                       place) for place, each in enumerate(emitted(table))]
     found.append(Variable('fault.number', INTEGER, 'output', 'the fault that ended the run: ' + ', '.join(
         '%d %s' % (each['number'], each['name']) for each in table['faults']), None, None, 'FAULT', 0))
     found += [each for each in data if each.causality == 'local']

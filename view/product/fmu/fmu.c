@@ -1,8 +1,8 @@
 /* A chart as a unit of co-simulation by the Functional Mock-up Interface 2.0. The types and functions are those that the standard
    gives in fmi2TypesPlatform.h, fmi2FunctionTypes.h and fmi2Functions.h; model.h, which flowfmu writes, has the chart.
 
-   The functions are called X_fmi2DoStep .., as the standard has it of sources, and fmi2DoStep .. where FMI2_OVERRIDE_FUNCTION_PREFIX
-   is defined, as for a shared library. */
+   The functions are called X_fmi2DoStep .., as the standard has it of sources, and fmi2DoStep .. where
+   FMI2_OVERRIDE_FUNCTION_PREFIX is defined, as for a shared library. */
 #include <stdarg.h>
 #include <stdbool.h>
 #include <stddef.h>
@@ -27,7 +27,7 @@ typedef struct {
     fmi2ComponentEnvironment componentEnvironment;
 } fmi2CallbackFunctions;
 
-/* What a value is: a datum of the chart, the count of an event that goes in or comes out, whether a state is active, or the fault. */
+/* What a value is: a datum of the chart, the count of an event that goes in or comes out, whether a state is active, the fault. */
 enum kind { DATUM, EVENT, OUTPUT, STATE, FAULT };
 enum type { FLAG, S8, U8, S16, U16, S32, U32, S64, U64 };
 
@@ -509,9 +509,9 @@ EXPORT fmi2Status NAME(fmi2DeSerializeFMUstate)(fmi2Component component, const f
 
 /* ---- what a chart has not, and what is asked of a step that is pending: none is */
 
-EXPORT fmi2Status NAME(fmi2GetDirectionalDerivative)(fmi2Component component, const fmi2ValueReference unknowns[], size_t unknown_count,
-                                                     const fmi2ValueReference knowns[], size_t known_count, const fmi2Real of[],
-                                                     fmi2Real derivatives[])
+EXPORT fmi2Status NAME(fmi2GetDirectionalDerivative)(fmi2Component component, const fmi2ValueReference unknowns[],
+                                                     size_t unknown_count, const fmi2ValueReference knowns[], size_t known_count,
+                                                     const fmi2Real of[], fmi2Real derivatives[])
 {
     (void)unknowns;
     (void)unknown_count;

@@ -10,7 +10,7 @@ from layout.written import formatted, without_comments, wrong_layout
 from random_charts import made_text
 
 TABLE = 'layout_table.txt'
-RANDOM_CHARTS = 40
+RANDOM_CHARTS = 30
 LIKELY = 0.15                                # how likely a comment is put before a token
 
 

@@ -20,7 +20,7 @@ TABLE = 'needs_table.txt'
 # The functions that are of no part of a chart.
 OF_NONE = ('whether a state is active and has no active child', 'the start', 'a reaction', 'the end mark',
            'the greatest whole number that is at most a / b')
-EXAMPLES = ('motor/motor', 'net/monitor', 'pump/pump', 'recipes/to_history', 'semantics/default_path', 'spacecraft/spacecraft')
+EXAMPLES = ('motor/motor', 'net/monitor', 'recipes/to_history', 'semantics/default_path')
 
 
 def needs_answer(block):

@@ -193,7 +193,8 @@ def wrong_talks():
 
 def wrong_publishing():
     """What is wrong with what a process tells by itself, of a text that is mended and closed."""
-    with subprocess.Popen([sys.executable, os.path.join(VIEW, 'flowls')], stdin=subprocess.PIPE, stdout=subprocess.PIPE) as process:
+    with subprocess.Popen([sys.executable, os.path.join(VIEW, 'flowls')], stdin=subprocess.PIPE, stdout=subprocess.PIPE,
+                          stderr=subprocess.PIPE) as process:
         def told(message):
             write_message(process.stdin, message)
             found = read_message(process.stdout)['params']
@@ -207,6 +208,7 @@ def wrong_publishing():
                told(notice(DIDS[2], {'textDocument': {'uri': URI}}))]
         for each in ENDED:
             write_message(process.stdin, each)
-        process.communicate(timeout=60)
+        status = process.wait(timeout=60)                    # with its input still open, as editors leave it
+        said = process.stderr.read()
     wanted = [(7, ['UnknownName']), (8, []), (None, [])]
-    return [] if got == wanted and process.returncode == 0 else ['publishing: %s, status %d' % (got, process.returncode)]
+    return [] if got == wanted and status == 0 and not said else ['publishing: %s, status %d, %s' % (got, status, said)]

@@ -3,7 +3,6 @@ the active child of each OR, for each state that is a bit, and for the fault.
 
 Addresses are those of fields that are aligned to their sizes, from the address of the struct on; the header that flownames writes
 lets a C compiler refuse another layout."""
-import common                                # noqa: F401, which finds the folder checks
 
 TYPES = {'bool': 'UBYTE', 'int8_t': 'SBYTE', 'uint8_t': 'UBYTE', 'int16_t': 'SWORD', 'uint16_t': 'UWORD', 'int32_t': 'SLONG',
          'uint32_t': 'ULONG', 'int64_t': 'A_INT64', 'uint64_t': 'A_UINT64'}

@@ -2,8 +2,6 @@
 import re
 from typing import NamedTuple, Optional
 
-import common                                # noqa: F401, which finds the folder checks
-
 ENUM = re.compile(r'enum \{ (\w+) = (\d+) \};')
 STRUCT = re.compile(r'typedef struct \{\n(.*?)\n\} (\w+)_chart;', re.DOTALL)
 FIELD = re.compile(r'\s*(\w+) (\w+)(?:\[(\d+)\])?; /\* (.*?) \*/', re.DOTALL)

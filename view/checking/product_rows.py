@@ -156,8 +156,8 @@ def wrong_line(table, measurements, methods, line, wrote):
         value, is_within = measurement.value(methods, data)
         kind, _, path = name[len(prefix):].partition('.')
         path = path.replace('.', '/')
-        if kind == 'child':
-            above = '' if path == table['chart'] and path not in line.states else path + '/'
+        if kind == 'child' or path == 'child':
+            above = path + '/' if kind == 'child' else ''
             wanted = [each[len(above):] for each in line.states if re.fullmatch(re.escape(above) + r'\w+', each)]
             is_same = value == (wanted[0] if wanted else 'none')
         elif kind == 'in':

@@ -3,6 +3,7 @@ the active child of each OR, for each state that is a bit, and for the fault.
 
 Addresses are those of fields that are aligned to their sizes, from the address of the struct on; the header that flownames writes
 lets a C compiler refuse another layout."""
+from product.names import children_of
 
 TYPES = {'bool': 'UBYTE', 'int8_t': 'SBYTE', 'uint8_t': 'UBYTE', 'int16_t': 'SWORD', 'uint16_t': 'UWORD', 'int32_t': 'SLONG',
          'uint32_t': 'ULONG', 'int64_t': 'A_INT64', 'uint64_t': 'A_UINT64'}
@@ -12,8 +13,8 @@ ALIGNMENTS = 'ALIGNMENT_BYTE 1 ALIGNMENT_WORD 2 ALIGNMENT_LONG 4 ALIGNMENT_INT64
 class Writer:
     """The file of a chart whose struct stands at an address, and has a symbol where one is named."""
 
-    def __init__(self, table, interface, address, symbol, big_endian):
-        self.table, self.interface = table, interface
+    def __init__(self, chart, table, interface, address, symbol, big_endian):
+        self.chart, self.table, self.interface = chart, table, interface
         self.address, self.symbol, self.big_endian = address, symbol, big_endian
         self.prefix = table['chart'] + '.'
         self.methods, self.measurements, self.names = {}, [], []
@@ -21,9 +22,10 @@ class Writer:
     def text(self):
         for datum in self.table['data']:
             self.datum(datum)
-        for field, parent, children in self.interface.children():
-            rows = {0: 'none', **children}
-            self.measurement('child.' + parent.replace('/', '.'), 'active child of %s' % parent, field,
+        for field, home, children in children_of(self.chart, self.interface):
+            rows = {0: 'none', **{number: child.name for number, child in children.items()}}
+            name = 'child.' + home.path().replace('/', '.') if home.parent else 'chart.child'
+            self.measurement(name, 'active child of %s' % (home.path() if home.parent else 'the chart'), field,
                              self.words(field.name, rows), 0, max(rows))
         for state in self.table['states']:
             if state['bits']:

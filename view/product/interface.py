@@ -7,7 +7,7 @@ STRUCT = re.compile(r'typedef struct \{\n(.*?)\n\} (\w+)_chart;', re.DOTALL)
 FIELD = re.compile(r'\s*(\w+) (\w+)(?:\[(\d+)\])?; /\* (.*?) \*/', re.DOTALL)
 TEST = re.compile(r'/\* Whether ([\w/]+) is active\. \*/\nstatic inline bool (\w+)\(const \w+ \*m\)\n\{\n    return (.*?);\n\}',
                   re.DOTALL)
-CHILDREN = re.compile(r'the active child of ([\w/]+): (.*)', re.DOTALL)
+CHILDREN = re.compile(r'the active child of [^:]+: (.*)')
 BIT = re.compile(r'\(m->(flags_\d+) & (\d+)u\) != 0u')
 SIZES = {'bool': 1, **{'%sint%d_t' % (sign, bits): bits // 8 for sign in ('', 'u') for bits in (8, 16, 32, 64)}}
 
@@ -68,12 +68,11 @@ class Interface:
         return found
 
     def children(self):
-        """For each field with an active child the path of the state whose child it is, and the names of children by their
-        numbers."""
+        """Each field with the active child of an OR, and the names of its children by their numbers."""
         for field in self.fields:
             found = CHILDREN.fullmatch(' '.join(field.comment.split()))
             if found:
-                yield field, found[1], {int(number): name for number, name in re.findall(r'(\d+) (\w+)', found[2])}
+                yield field, {int(number): name for number, name in re.findall(r'(\d+) (\w+)', found[1])}
 
 
 def fields_of(text):

@@ -11,8 +11,7 @@ FIELD = {'input': 'in_', 'output': 'out_', 'local': 'loc_'}
 
 def table_of(chart, interface):
     """All names of a chart, as JSON has them. NoHeader where the header isn't of the chart."""
-    states = {path: (field, number) for field, parent, children in interface.children()
-              for number, name in children.items() for path in [under(chart, parent, name)]}
+    numbers = {child: (field, number) for field, _, children in children_of(chart, interface) for number, child in children.items()}
     missing = [each.path() for each in chart.states if each.parent and each.path() not in interface.tests]
     if missing or len(interface.tests) != len(chart.states) - 1:
         raise NoHeader('its states are not those of the chart')
@@ -21,16 +20,20 @@ def table_of(chart, interface):
         'events': [event_row(each, interface) for each in chart.events] + [
             {'name': 'tick', 'kind': 'tick', 'number': interface.tick(), 'constant': interface.prefix + '_TICK'}],
         'data': [datum_row(number, each, interface) for number, each in enumerate(chart.data)],
-        'states': [state_row(each, interface, states) for each in chart.states if each.parent],
+        'states': [state_row(each, interface, numbers) for each in chart.states if each.parent],
         'faults': [{'name': name, 'number': number, 'constant': '%s_FAULT_%s' % (interface.prefix, name.upper())}
                    for name, number in interface.faults().items()]}
 
 
-def under(chart, parent, name):
-    """The path of a child of a state that is named as the header does, which names the chart by its name."""
-    top = parent == chart.root.name and all(each.path() != parent or all(child.name != name for child in each.children)
-                                            for each in chart.states if each.parent)
-    return name if top or parent == 'the chart' else '%s/%s' % (parent, name)
+def children_of(chart, interface):
+    """For each OR the field with its active child, the OR, and its children by their numbers. The header has the fields in the order
+    of the chart; it names an OR by its path, and a state may have the name of the chart."""
+    homes = [each for each in chart.states if each.composition == 'or']
+    fields = list(interface.children())
+    if [list(names.values()) for _, names in fields] != [[child.name for child in each.children] for each in homes]:
+        raise NoHeader('its states are not those of the chart')
+    for (field, names), home in zip(fields, homes):
+        yield field, home, dict(zip(names, home.children))
 
 
 def event_row(event, interface):
@@ -56,7 +59,7 @@ def datum_row(number, datum, interface):
 
 
 def state_row(state, interface, numbers):
-    field, number = numbers.get(state.path(), (None, None))
+    field, number = numbers.get(state, (None, None))
     test = interface.tests[state.path()]
     return {'path': state.path(), 'composition': state.composition, 'test': test.function,
             'field': field.name if field else test.field or None, 'number': number, 'bits': test.bits or None}

@@ -7,8 +7,7 @@ A case is a chart of random_charts.py with an event file. flowwhy explains whate
 must be that of PROGRAM's line. Of an accepted chart flowlint gives its warnings, and then the chart runs over random event files
 by the rules: no transition may be enabled that flowlint calls never taken, no state be entered and no junction with transitions
 be visited that it calls never reached; a search that comes to a junction which it calls endless must end with a fault. flowtrace
-must give back each trace. flowls is asked at random places of the text, which may be cut. flowfmt lays out another random chart
-with random comments. It writes counts, and ends with status 1 where anything is wrong."""
+must give back each trace. It writes counts, and ends with status 1 where anything is wrong."""
 import os
 import random
 import sys
@@ -92,12 +91,17 @@ def wrong_explanation(program, folder, text, data, depth, steps, counts):
     return None
 
 
-def wrong_server(text, choices):
-    """What is wrong with the answers of flowls about a text, which may be cut at a random place."""
+def wrong_at_the_desk(text, name, counts):
+    """What is wrong with the answers of flowls at random places of a text, which may be cut, and with the layout by flowfmt of
+    another random chart with random comments."""
+    choices = random.Random('%s server' % name)
     if choices.random() < 0.5:
         first = choices.randrange(len(text) + 1)
         text = text[:first] + text[first + choices.choice([1, 5, len(text)]):]
-    return wrong_answers(text, choices)
+    yield from wrong_answers(text, choices)
+    wrong, readable = wrong_random(name)
+    counts['layouts'] += readable
+    yield wrong
 
 
 def main():
@@ -113,13 +117,10 @@ def main():
         for place in range(given.first, given.first + given.cases):
             text, chart, data, depth, steps = made_case(given.seed, place, WITH_HISTORY)
             found = [wrong_explanation(os.path.abspath(given.against), folder, text, data, depth, steps, counts)]
+            found += wrong_at_the_desk(text, '%s %d' % (given.seed, place), counts)
             if chart:
                 counts['accepted'] += 1
                 found += wrong_runs(text, chart, '%s %d' % (given.seed, place), depth, steps, given.runs, counts)
-            found += wrong_server(text, random.Random('%s %d server' % (given.seed, place)))
-            wrong_layout, readable = wrong_random('%s %d' % (given.seed, place))
-            counts['layouts'] += readable
-            found.append(wrong_layout)
             for each in filter(None, dict.fromkeys(found)):
                 print('case %d: %s' % (place, each), flush=True)
                 wrong += 1

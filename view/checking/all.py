@@ -1,9 +1,9 @@
 """All parts of the check."""
 import sys
 
+from checking import desk
 from checking import Wrong, blocks_of, differences, text_of, written_again
 from checking import lint_rows, trace_rows, why_rows
-from checking import desk
 from checking.commands import wrong_calls
 from checking.pages import wrong_cases, wrong_recipes
 
@@ -13,7 +13,7 @@ ROWS_OF_WHY = 100           # flowwhy is checked over at least so many texts
 def answers(program):
     """What answers each table."""
     return {why_rows.TABLE: lambda block: why_rows.why_answer(program, block), lint_rows.TABLE: lint_rows.lint_answer,
-            trace_rows.TABLE: trace_rows.trace_answer, **desk.ANSWERS}
+            trace_rows.TABLE: trace_rows.trace_answer}
 
 
 def parts(program):
@@ -24,7 +24,6 @@ def parts(program):
         lines = [line for block in blocks[name] for line in differences(block, answer(block))]
         if name == lint_rows.TABLE:
             lines += lint_rows.kinds_without_rows(blocks[name])
-        lines += desk.missing_rows(name, blocks[name])
         if name == why_rows.TABLE and len(blocks[name]) < ROWS_OF_WHY:
             lines.append('under %d rows' % ROWS_OF_WHY)
         yield name, '%d rows' % len(blocks[name]), lines
@@ -61,5 +60,5 @@ def checked(program):
 
 def rewritten(program, name):
     """Writes a table with the answers that are given now."""
-    sys.stdout.write(written_again(name, answers(program)[name]))
+    sys.stdout.write(written_again(name, {**answers(program), **desk.ANSWERS}[name]))
     return 0

@@ -1,5 +1,5 @@
 """The parts of the check that are of flowfmt, flowls, flowreq, flownames and flowfmu."""
-from checking import layout_rows, needs_rows, product_rows, server_rows
+from checking import blocks_of, differences, layout_rows, needs_rows, product_rows, server_rows
 from checking.commands import wrong_calls
 from checking.desk_calls import CALLS, FILES
 from common.program import find_chart_to_c
@@ -8,13 +8,12 @@ ANSWERS = {layout_rows.TABLE: layout_rows.layout_answer, server_rows.TABLE: serv
            needs_rows.TABLE: needs_rows.needs_answer}
 
 
-def missing_rows(name, blocks):
-    """What a table has no row of."""
-    return server_rows.words_without_rows(blocks) if name == server_rows.TABLE else []
-
-
 def parts(program, examples):
     """Each part as its name, how much of what it looked at, and the lines on what is wrong."""
+    for name, answer in ANSWERS.items():
+        blocks = blocks_of(name)
+        lines = [line for block in blocks for line in differences(block, answer(block))]
+        yield name, '%d rows' % len(blocks), lines + (server_rows.words_without_rows(blocks) if name == server_rows.TABLE else [])
     chart_to_c = find_chart_to_c(None)
     none = [] if examples else ['no example']
     yield 'layouts of the examples', '%d charts' % len(examples), layout_rows.wrong_examples(program, examples) + none

@@ -32,8 +32,8 @@ class ChartModel:
     """All of a chart that is shown."""
 
     def __init__(self, text):
-        written, self.chart = read_chart(text), check_chart(text)
-        self.name, self.text = written.root.name.text, text
+        self.text, written, self.chart = text, read_chart(text), check_chart(text)
+        self.name = written.root.name.text
         self.sum = hashlib.sha256(syntax.canonical_text(written).encode('latin-1')).hexdigest()
         self.written = dict(zip(self.chart.states, all_states(written.root)))
         self.state_ids = {state: 's%d' % number for number, state in enumerate(self.chart.states)}

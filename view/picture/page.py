@@ -79,9 +79,9 @@ def page_of(sheets, lines, end, gaps, run):
         style=part('page.css') + style_in_page() + part('run.css') + part('print.css'),
         drawings='\n'.join(drawing_in_page(sheets, drawn, gaps) for drawn in sheets.all),
         summary='Coverage: ' + escape(gaps.head()), gap_items='\n'.join(items) or '<li>nothing is without a sign</li>',
-        note=escape(gaps.note()), requirements=requirements_in_page(sheets.model),
-        fired_word='fired' if gaps.exact else 'may have fired',
+        note=escape(gaps.note()), fired_word='fired' if gaps.exact else 'may have fired',
         ended_word='<span><i class="g"></i>ended in a junction</span>' if gaps.exact else '',
         cut='' if len(lines) == len(shown) else 'the first %d of %d lines' % (len(shown), len(lines)),
         model=for_script(json.dumps(model_for_page(sheets, shown, end, gaps), separators=(',', ':'))),
-        trace='\n'.join(line.text for line in shown), script='\n'.join(map(part, SCRIPTS)))
+        trace='\n'.join(line.text for line in shown), requirements=requirements_in_page(sheets.model),
+        script='\n'.join(map(part, SCRIPTS)))

@@ -26,8 +26,8 @@ def table_of(chart, interface):
 
 
 def children_of(chart, interface):
-    """For each OR the field with its active child, the OR, and its children by their numbers. The header has the fields in the order
-    of the chart; it names an OR by its path, and a state may have the name of the chart."""
+    """For each OR the field with its active child, the OR, and its children by their numbers. The header has the fields in the
+    order of the chart; it names an OR by its path, and a state may have the name of the chart."""
     homes = [each for each in chart.states if each.composition == 'or']
     fields = list(interface.children())
     if [list(names.values()) for _, names in fields] != [[child.name for child in each.children] for each in homes]:

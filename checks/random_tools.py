@@ -20,6 +20,8 @@ sys.path.insert(0, os.path.join(os.path.dirname(os.path.abspath(__file__)), '..'
 import chart_rules as rules                                                       # noqa: E402
 import programs                                                                   # noqa: E402
 from chart_syntax import WITH_HISTORY                                             # noqa: E402
+from checking.layout_rows import wrong_random                                      # noqa: E402
+from checking.server_rows import wrong_answers                                    # noqa: E402
 from checking.trace_rows import round_trip                                        # noqa: E402
 from lint.conditions import Conditions                                            # noqa: E402
 from lint.cycles import endless                                                   # noqa: E402
@@ -125,6 +127,19 @@ def wrong_explanation(program, folder, text, data, depth, steps, counts):
     return None
 
 
+def wrong_at_the_desk(text, name, counts):
+    """What is wrong with the answers of flowls at random places of a text, which may be cut, and with the layout by flowfmt of
+    another random chart with random comments."""
+    choices = random.Random('%s server' % name)
+    if choices.random() < 0.5:
+        first = choices.randrange(len(text) + 1)
+        text = text[:first] + text[first + choices.choice([1, 5, len(text)]):]
+    yield from wrong_answers(text, choices)
+    wrong, readable = wrong_random(name)
+    counts['layouts'] += readable
+    yield wrong
+
+
 def main():
     parser = programs.parser(__doc__)
     parser.add_argument('--cases', type=programs.at_least_one, default=1000)
@@ -138,6 +153,7 @@ def main():
         for place in range(given.first, given.first + given.cases):
             text, chart, data, depth, steps = made_case(given.seed, place, WITH_HISTORY)
             found = [wrong_explanation(os.path.abspath(given.against), folder, text, data, depth, steps, counts)]
+            found += wrong_at_the_desk(text, '%s %d' % (given.seed, place), counts)
             if chart:
                 counts['accepted'] += 1
                 found += wrong_runs(text, chart, '%s %d' % (given.seed, place), depth, steps, given.runs, counts)

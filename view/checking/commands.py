@@ -70,14 +70,14 @@ CALLS = [
 ]
 
 
-def wrong_calls(program):
+def wrong_calls(program, calls=CALLS, files=FILES):
     """The calls that end otherwise, and how many there are."""
     lines = []
     with tempfile.TemporaryDirectory() as folder:
-        for name, text in FILES.items():
+        for name, text in files.items():
             with open(os.path.join(folder, name), 'w', encoding='ascii') as file:
                 file.write(text)
-        for words, status, out, error in CALLS:
+        for words, status, out, error in calls:
             tool, *rest = words.replace('LAMP', LAMP).split(' ')
             done = subprocess.run([sys.executable, os.path.join(VIEW, tool), *rest], cwd=folder, capture_output=True, check=False,
                                   stdin=subprocess.DEVNULL, env={**os.environ, 'FLOWC': program, 'COLUMNS': '80'})
@@ -87,4 +87,4 @@ def wrong_calls(program):
                        for got, wanted in ((got_out, out), (got_error, error)))
             if done.returncode != status or not fits:
                 lines.append('%s: status %d, %r, %r' % (words, done.returncode, got_out[:200], got_error[:200]))
-    return lines, len(CALLS)
+    return lines, len(calls)

@@ -7,6 +7,7 @@ from string import Template
 from chart_check import Junction
 from chart_syntax import scale_text
 
+from needs.page import requirements_in_page
 from picture.curves import number
 from picture.svg import MARGIN
 from picture.svg_style import style_in_page
@@ -83,4 +84,5 @@ def page_of(sheets, lines, end, gaps, run):
         ended_word='<span><i class="g"></i>ended in a junction</span>' if gaps.exact else '',
         cut='' if len(lines) == len(shown) else 'the first %d of %d lines' % (len(shown), len(lines)),
         model=for_script(json.dumps(model_for_page(sheets, shown, end, gaps), separators=(',', ':'))),
-        trace='\n'.join(line.text for line in shown), script='\n'.join(map(part, SCRIPTS)))
+        trace='\n'.join(line.text for line in shown), requirements=requirements_in_page(sheets.model),
+        script='\n'.join(map(part, SCRIPTS)))

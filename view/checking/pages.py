@@ -1,12 +1,14 @@
 """The charts and traces of the pages, against the examples that they name."""
 import os
 import re
+import subprocess
+import sys
 
 from chart_rules import run_rules
 from common import CHECKOUT
 from common.program import read_file, run
 
-SEMANTICS, CHART_TEXT = (os.path.join(CHECKOUT, 'docs', name) for name in ('SEMANTICS.md', 'CHART_TEXT.md'))
+SEMANTICS, CHART_TEXT, TESTS = (os.path.join(CHECKOUT, 'docs', name) for name in ('SEMANTICS.md', 'CHART_TEXT.md', 'TESTS.md'))
 NAMED = re.compile(r'\(`(\w+)`\)')
 
 
@@ -40,3 +42,21 @@ def wrong_recipes(program):
         if not trace or by_rules.out != trace or by_program.out.decode('latin-1') != trace:
             lines.append('examples/recipes: %s has another trace' % name)
     return lines or ([] if names else ['examples/recipes: no chart']), len(names)
+
+
+def wrong_calls_of_tests():
+    """The calls of flowtests that docs/TESTS.md shows and that write something else, and how many there are. How long a search took
+    isn't compared."""
+    lines, seen = [], 0
+    for block in re.findall(r'```\n\$ (view/flowtests .*?)```', read_file(TESTS), re.S):
+        call, _, wanted = block.partition('\n')
+        seen += 1
+        environment = {name: value for name, value in os.environ.items() if name != 'FLOWC'}
+        got = subprocess.run([sys.executable, *call.split(' ')], cwd=CHECKOUT, env=environment, capture_output=True, check=False)
+        if without_seconds(got.stdout.decode('latin-1')) != without_seconds(wanted):
+            lines.append('docs/TESTS.md: `%s` writes something else' % call)
+    return lines or ([] if seen else ['docs/TESTS.md: no call']), seen
+
+
+def without_seconds(text):
+    return re.sub(r'[0-9.]+ of 30 seconds', '', text)

@@ -1,9 +1,10 @@
-"""Why a goal doesn't come. `proved` is what a prover of charts says; each other reason is an argument of this tool, outside of all proofs.
+"""Why a goal doesn't come. `proved` is what a prover of charts says; each other reason is an argument of this tool, outside of all
+proofs.
 
     constant        the guard hangs on no datum and no state
     never taken     an earlier transition of the list ends each search, as flowlint tells
-    never reached   no way leads to the state, the list or the junction, as flowlint tells; transitions whose guard is always false and
-                    those that are never taken lead nowhere
+    never reached   no way leads to the state, the list or the junction, as flowlint tells; transitions whose guard is always false
+                    and those that are never taken lead nowhere
     no values       z3 finds no values of the data with which the decision is so, whatever states are active
     all worlds      every world that a run can come to was tried, as all_worlds.py does"""
 import time
@@ -20,8 +21,8 @@ NOT_FOUND = 'not found within the limit'
 
 
 def proved(model):
-    """The goals that a prover of charts has proved impossible, by their keys, each with its words. There is no such prover yet: what
-    `chart_prove` says of a chart is to be read here, and here alone."""
+    """The goals that a prover of charts has proved impossible, by their keys, each with its words. There is no such prover yet:
+    what `chart_prove` says of a chart is to be read here, and here alone."""
     del model
     return {}
 

@@ -89,7 +89,7 @@ def all_values(datum):
 
 class AllWorlds:
     """The worlds of a chart, each tried with all lines. Where `is_whole` holds at the end, there are no others. With `exact`
-    counters have each of their values."""
+    counters have each of their values. The nearest worlds are tried first, so that it ends at the first run that is too long."""
 
     def __init__(self, finder, exact=False):
         chart = finder.parts.chart
@@ -124,6 +124,8 @@ class AllWorlds:
             return
         while self.waiting and len(self.seen) < MOST_WORLDS:
             node = self.waiting.popleft()
+            if node.length >= self.finder.longest:
+                return
             for event in self.events:
                 for inputs in self.choices:
                     if time.process_time() > until:

@@ -72,9 +72,10 @@ def report_faults(folder, program, classes):
 
 def junit_faults(folder, program, reader):
     """What is wrong with the results of three cases, of which one passes, one has another trace and one has none."""
-    called('flowtrace test LAMPchart LAMPevents wanted LAMPevents other wrong.chart ticks wanted --junit results.xml', folder,
-    program) found = reader.JUnitXml.fromfile(os.path.join(folder, 'results.xml')) told = ['%s: %d tests, %d failures, %d errors' %
-    (os.path.basename(suite.name), suite.tests, suite.failures, suite.errors)
+    words = 'flowtrace test LAMPchart LAMPevents wanted LAMPevents other wrong.chart ticks wanted --junit results.xml'
+    called(words, folder, program)
+    found = reader.JUnitXml.fromfile(os.path.join(folder, 'results.xml'))
+    told = ['%s: %d tests, %d failures, %d errors' % (os.path.basename(suite.name), suite.tests, suite.failures, suite.errors)
             for suite in found]
     told += ['%s: %s' % (os.path.basename(case.name), ', '.join(type(each).__name__ + ' ' + each.message for each in case.result))
              for suite in found for case in suite]

@@ -8,8 +8,9 @@ must be that of PROGRAM's line. Of an accepted chart flowlint gives its warnings
 by the rules: no transition may be enabled that flowlint calls never taken, no state be entered and no junction with transitions
 be visited that it calls never reached; a search that comes to a junction which it calls endless must end with a fault; no condition
 may be otherwise than it says that it always is; no during action may run that it calls never run, and no state beside one be
-entered of which it says that nothing leaves it. flowtrace must give back each trace. It writes counts, and ends with status 1
-where anything is wrong."""
+entered of which it says that nothing leaves it. flowtrace must give back each trace. With `--tests SECONDS` flowtests searches so
+long for each accepted chart, and no run may cover what it says can't come. It writes counts, and ends with status 1 where anything
+is wrong."""
 import os
 import random
 import sys
@@ -29,6 +30,10 @@ from lint.dead import never_run, never_taken                                    
 from lint.reach import Reached                                                    # noqa: E402
 from lint.warnings import warnings                                                # noqa: E402
 from lint.ways import without_way_out                                             # noqa: E402
+from measure.covered import Covered                                               # noqa: E402
+from measure.suite import met_goals                                               # noqa: E402
+from picture.chart_model import ChartModel                                        # noqa: E402
+from suites.search import Search                                                  # noqa: E402
 from random_charts import event_file, made_case                                   # noqa: E402
 from why.answer import answer                                                     # noqa: E402
 
@@ -107,6 +112,22 @@ def wrong_runs(text, chart, seed, depth, steps, runs, counts):
             yield wrong
 
 
+def wrong_tests(text, seed, depth, steps, seconds, runs, counts):
+    """What random runs cover though flowtests says that it can't come."""
+    search = Search(ChartModel(text), seconds, 1, 100, depth, steps)
+    choices, noted = random.Random('%s tests' % seed), set()
+    for _ in range(runs):
+        covered = Covered(search.parts, depth, steps)
+        rules.run_events(covered, event_file(choices, search.parts.chart).encode('latin-1'))
+        noted |= covered.noted
+    never = [goal for goal in search.parts.goals if goal.key in search.reasons.found]
+    counts['goals'] += len(search.parts.goals)
+    counts["goals that can't come"] += len(never)
+    counts['charts of which all worlds were tried'] += search.worlds.is_whole
+    for goal in met_goals(never, noted):
+        yield "%s: %s: %s, and it comes" % (goal.where, goal.what, search.reasons.found[goal.key])
+
+
 def wrong_explanation(program, folder, text, data, depth, steps, counts):
     """What is wrong with what flowwhy says."""
     names = [os.path.join(folder, name) for name in ('chart', 'events')]
@@ -146,6 +167,7 @@ def main():
     parser.add_argument('--first', type=int, default=0)
     parser.add_argument('--seed', default='1')
     parser.add_argument('--runs', type=int, default=20)
+    parser.add_argument('--tests', type=float, default=0, metavar='SECONDS')
     parser.add_argument('--against', required=True, metavar='PROGRAM')
     given = parser.parse_args()
     counts, wrong = Counter(), 0
@@ -156,7 +178,10 @@ def main():
             found += wrong_at_the_desk(text, '%s %d' % (given.seed, place), counts)
             if chart:
                 counts['accepted'] += 1
-                found += wrong_runs(text, chart, '%s %d' % (given.seed, place), depth, steps, given.runs, counts)
+                name = '%s %d' % (given.seed, place)
+                found += wrong_runs(text, chart, name, depth, steps, given.runs, counts)
+                if given.tests:
+                    found += wrong_tests(text, name, depth, steps, given.tests, given.runs, counts)
             for each in filter(None, dict.fromkeys(found)):
                 print('case %d: %s' % (place, each), flush=True)
                 wrong += 1

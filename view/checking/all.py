@@ -6,7 +6,7 @@ from checking import Wrong, blocks_of, differences, text_of, written_again
 from checking import lint_rows, suite_rows, trace_rows, why_rows
 from checking.commands import wrong_calls
 from checking.formats import wrong_formats
-from checking.pages import wrong_cases, wrong_recipes, wrong_warnings
+from checking.pages import wrong_calls_of_tests, wrong_cases, wrong_recipes, wrong_warnings
 
 ROWS_OF_WHY = 100           # flowwhy is checked over at least so many texts
 
@@ -44,6 +44,8 @@ def parts(program):
     yield 'examples of docs/WARNINGS.md', '%d kinds' % seen, lines
     lines, seen = wrong_calls(program)
     yield 'calls of the tools', '%d calls' % seen, lines
+    lines, seen = wrong_calls_of_tests()
+    yield 'calls of docs/TESTS.md', '%d calls' % seen, lines
     lines, seen = wrong_formats(program)
     yield 'reports in other formats', '%d reports' % seen, lines
 

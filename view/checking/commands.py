@@ -26,7 +26,7 @@ CALLS = [
     ('flowwhy nothing.chart', 4, '', 'read fault\nnothing.chart:1:1: error: ReadFault: '),
     ('flowwhy', 2, '', 'usage: flowwhy'),
     ('flowwhy wrong.chart LAMPchart LAMPevents', 1, '0 start [Off]', 'chart 1:44: 3 Expected\nwrong.chart:1:44: error: Expected: '),
-    ('flowwhy fault.chart ticks ticks --format json', 3, '{\n "tool": "flowwhy",\n "messages": [\n  {\n   "file": "fault.chart",\n', 'run 1'),
+    ('flowwhy fault.chart ticks ticks --format json', 3, '{\n "tool": "flowwhy",\n "messages": [\n  {\n', 'run 1: zero\n'),
     ('flowwhy LAMPchart --format xml', 2, '', 'usage: flowwhy'),
     ('flowwhy wrong.chart --program nothing', 127, '', 'flowwhy: --program names nothing, which is no program'),
     ('flowlint dead.chart', 0, 'ok 2 states 0 junctions 3 transitions 3 pairs\ndead.chart:1:47: warning: NeverTaken: ', ''),

@@ -1,4 +1,5 @@
 """Calls of flowfmt, flowls, flowreq, flownames and flowfmu, as commands.py makes them."""
+from checking.commands import LAMP_SUM
 from common.version import VERSION
 
 TOOLS = ('flowfmt', 'flowls', 'flowreq', 'flownames', 'flowfmu')
@@ -6,6 +7,7 @@ FALSE = '/bin/false'
 LAMP_HEADER = '''enum { Lamp_E_GO = 0 };
 enum { Lamp_TICK = 1 };
 enum { Lamp_FAULT_NONE = 0 };
+enum { Lamp_SUM_0 = 0xb682, Lamp_SUM_1 = 0x41c5, Lamp_SUM_2 = 0x5726, Lamp_SUM_3 = 0x0cf0 };
 typedef struct {
     uint32_t fault; /* its fault */
     uint16_t child_0; /* the active child of Lamp: 2 Off, 3 On */
@@ -29,15 +31,19 @@ FILES = {
     'untied.chart': 'chart C { default -> A; state A { }\n// @req R-2\n}\n',
     'known': 'R-2\nR-4\n',
     'lamp.h': LAMP_HEADER,
+    'other.h': LAMP_HEADER.replace('SUM_3 = 0x0cf0', 'SUM_3 = 0x0000'),
+    'without.h': LAMP_HEADER.replace('SUM', 'COUNT'),
     'tied.c': '/* entering A */\nstatic uint32_t p7(C_chart *m)\n{\n    return 0;\n}\n',
 }
-MATRIX = 'requirement,chart,kind,part,text,place,functions,tests\n'
+SUM = 'f9bc2fe0b1503b62'                    # of the charts tied.chart and all.chart, which differ in comments alone
+MATRIX = 'requirement,chart,sum,kind,part,text,place,functions,tests\n'
 # The words, the status, how standard output begins, and how standard error begins.
 CALLS = [
-    ('flowreq tied.chart --c tied.c', 0, MATRIX + 'R-1,C,chart,C,,tied.chart:2:1,,\n',
+    ('flowreq tied.chart --c tied.c', 0, MATRIX + 'R-1,C,%s,chart,C,,tied.chart:2:1,,\n' % SUM,
      '3 requirements, 2 parts tied\ntied.chart:3:2: the transition the chart, default 1 has no requirement\n'),
     ('flowreq tied.chart --c tied.c --strict', 8, MATRIX, '3 requirements, 2 parts tied\n'),
-    ('flowreq all.chart --c tied.c --strict', 0, MATRIX + 'R-2,C,chart,C,,all.chart:1:1,,\n', '1 requirement, 3 parts tied\n'),
+    ('flowreq all.chart --c tied.c --strict', 0, MATRIX + 'R-2,C,%s,chart,C,,all.chart:1:1,,\n' % SUM,
+     '1 requirement, 3 parts tied\n'),
     ('flowreq all.chart --c tied.c --requirements known --strict', 8, MATRIX, '1 requirement, 3 parts tied\nR-4: no part has'),
     ('flowreq untied.chart --c tied.c', 1, '', 'untied.chart:2:1: error: TiesNothing: '),
     ('flowreq all.chart --c tied.c --tests .', 4, '', './all.coverage.json:1:1: error: ReadFault: '),
@@ -45,10 +51,13 @@ CALLS = [
     ('flowreq all.chart tied.chart --c tied.c', 2, '', 'usage: flowreq'),
     ('flowreq all.chart --chart-to-c nothing', 127, '', 'flowreq: --chart-to-c names nothing'),
     ('flowreq all.chart --chart-to-c /bin/false', 1, '', FALSE + ' source all.chart: '),
-    ('flownames LAMPchart --header lamp.h', 0, '{\n  "chart": "Lamp",\n  "prefix": "Lamp",\n', ''),
-    ('flownames LAMPchart --header lamp.h --as c', 0, '/* Names of the chart Lamp, ', ''),
+    ('flownames LAMPchart --header lamp.h', 0, '{\n  "chart": "Lamp",\n  "sum": "%s",\n  "prefix": "Lamp",\n' % LAMP_SUM, ''),
+    ('flownames LAMPchart --header lamp.h --as c', 0, '/* Names of the chart Lamp, sum %s, ' % LAMP_SUM, ''),
     ('flownames LAMPchart --header lamp.h --as a2l', 0, 'ASAP2_VERSION 1 60\n', ''),
     ('flownames dead.chart --header lamp.h', 1, '', 'the header isn\'t the chart\'s: its states are not those of the chart\n'),
+    ('flownames LAMPchart --header other.h', 1, '',
+     'the header isn\'t the chart\'s: its sum is %s0000, and that of the chart %s\n' % (LAMP_SUM[:12], LAMP_SUM)),
+    ('flownames LAMPchart --header without.h', 1, '', 'the header isn\'t the chart\'s: it has no sum of a chart\n'),
     ('flownames dead.chart --header known', 1, '', 'the header isn\'t the chart\'s: it has no struct of a chart\n'),
     ('flownames wrong.chart --header lamp.h', 1, '', 'chart 1:44: 3 Expected\nwrong.chart: the chart is refused'),
     ('flownames LAMPchart --header nothing', 4, '', 'nothing:1:1: error: ReadFault: '),

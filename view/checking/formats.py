@@ -7,7 +7,7 @@ import subprocess
 import sys
 import tempfile
 
-from checking.commands import FILES, LAMP
+from checking.commands import FILES, LAMP, LAMP_SUM
 from common import VIEW
 from common.debian import module
 
@@ -77,9 +77,11 @@ def junit_faults(folder, program, reader):
     found = reader.JUnitXml.fromfile(os.path.join(folder, 'results.xml'))
     told = ['%s: %d tests, %d failures, %d errors' % (os.path.basename(suite.name), suite.tests, suite.failures, suite.errors)
             for suite in found]
+    told += ['%s: %s' % (each.name, each.value) for suite in found for each in suite.properties()]
     told += ['%s: %s' % (os.path.basename(case.name), ', '.join(type(each).__name__ + ' ' + each.message for each in case.result))
              for suite in found for case in suite]
-    wanted = ['lamp.chart: 2 tests, 1 failures, 0 errors', 'wrong.chart: 1 tests, 0 failures, 1 errors', 'lamp.events: ',
+    wanted = ['lamp.chart: 2 tests, 1 failures, 0 errors', 'wrong.chart: 1 tests, 0 failures, 1 errors', 'sum: ' + LAMP_SUM,
+              'lamp.events: ',
               'lamp.events: Failure line 2, GO:', 'ticks: Error chart 1:44: 3 Expected']
     if told != wanted:
         yield 'JUnit XML is read as %s' % told

@@ -34,7 +34,7 @@ def needs_answer(block):
     except NotCoverage as fault:
         return [str(fault).partition('coverage.json: ')[2]]
     rows = rows_of('chart', text, ties, functions_of(text_of(block, 'source') or ''), places)
-    lines = [' | '.join(each).rstrip() for each in rows]
+    lines = [line_of(each) for each in rows]
     same = [row[0] for row in rows_of('chart', formatted(text), ties_of(formatted(text)), [], [])]
     if sorted(same) != sorted(row[0] for row in rows):
         lines.append('the layout has other ties')
@@ -42,6 +42,11 @@ def needs_answer(block):
     if any('<b>%s</b>' % each[0] not in page for each in rows if each[0]) or bool(page) != bool(ties.names):
         lines.append('the page has other ties')
     return lines
+
+
+def line_of(row):
+    """A row in words, without the sum of its chart."""
+    return ' | '.join((row.requirement, row.chart, *row[row._fields.index('kind'):])).rstrip()
 
 
 def places_of(text, coverage):

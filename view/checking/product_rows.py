@@ -89,12 +89,11 @@ STEPS
 '''
 
 
-def main_text(table, lines, has_init):
+def main_text(table, lines):
     """A program that writes what the header of names says, and runs the lines of a trace."""
     p = table['prefix']
     numbers = {each['name']: each['constant'] for each in table['events']}
-    steps = ['    %s_init(&chart);' % p] if has_init else []
-    steps.append('    show(%s_start(&chart));' % p)
+    steps = ['    %s_init(&chart);' % p, '    show(%s_start(&chart));' % p]
     for line in lines[1:]:
         for row, mantissa in inputs_of(table, line):
             steps.append('    chart.%s = %s;' % (row['field'], 'INT64_MIN' if mantissa == -2 ** 63 else '(%s)%dLL' % (
@@ -127,7 +126,7 @@ def wrong_names_of(chart_to_c, stem, folder):
     given = ['--header', table['chart'] + '.h']
     write(folder, table['chart'] + '_names.h', ran(tool('flownames', chart, '--as', 'c', *given), folder))
     a2l = ran(tool('flownames', chart, '--as', 'a2l', '--address', hex(ADDRESS), '--symbol', 'chart', *given), folder)
-    write(folder, 'main.c', main_text(table, trace, '_init(' in header))
+    write(folder, 'main.c', main_text(table, trace))
     ran(['cc', *WARNINGS, 'main.c', table['chart'] + '.c', '-o', 'main'], folder)
     told = ran(['./main'], folder).split('\n')[:-1]
     rows = [each for each in told if each.startswith(('event ', 'fault ', 'datum '))]

@@ -7,13 +7,14 @@ from common.places import line_and_column
 from needs.functions import names_for
 from needs.tests import tests_for
 
-HEAD = ('requirement', 'chart', 'kind', 'part', 'text', 'place', 'functions', 'tests')
+HEAD = ('requirement', 'chart', 'sum', 'kind', 'part', 'text', 'place', 'functions', 'tests')
 
 
 class Row(NamedTuple):
     """A requirement and a part that has it; either may be missing."""
     requirement: str
     chart: str
+    sum: str = ''
     kind: str = ''
     part: str = ''
     text: str = ''
@@ -31,7 +32,7 @@ def rows_of(name, text, ties, functions, places):
 
 def row(requirement, name, text, ties, part, functions, places):
     place = '%s:%d:%d' % (name, *line_and_column(text, part.first))
-    return Row(requirement, ties.model.name, part.kind, part.name, part.text, place, ' '.join(names_for(part, functions)),
+    return Row(requirement, ties.model.name, ties.model.sum, part.kind, part.name, part.text, place, ' '.join(names_for(part, functions)),
                ' '.join(tests_for(part, places)))
 
 

@@ -8,6 +8,7 @@ import chart_syntax as syntax
 from chart_check import LISTS, Assign, Junction, check_chart, read_chart
 from chart_rules import value_text
 
+from common.chart_sum import sum_of
 from picture import labels
 
 
@@ -35,7 +36,8 @@ class ChartModel:
     def __init__(self, text):
         self.text, written, self.chart = text, read_chart(text), check_chart(text)
         self.name = written.root.name.text
-        self.sum = hashlib.sha256(syntax.canonical_text(written).encode('latin-1')).hexdigest()
+        self.sum = sum_of(written)
+        self.sha256 = hashlib.sha256(syntax.canonical_text(written).encode('latin-1')).hexdigest()
         self.written = dict(zip(self.chart.states, all_states(written.root)))
         self.state_ids = {state: 's%d' % number for number, state in enumerate(self.chart.states)}
         self.junction_ids = {junction: 'j%d' % number for number, junction in enumerate(self.chart.junctions)}

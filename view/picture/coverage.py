@@ -108,7 +108,7 @@ class Gaps:
         for goal in self.missing():
             line, column = line_and_column(self.model.text, goal.at)
             missing.append({'part': goal.where, 'text': goal.what, 'why': 'never so', 'line': line, 'column': column})
-        return {'chart': self.model.name, 'sha256': self.model.sum, 'runs': runs, 'exact': self.exact, 'note': self.note(),
+        return {'chart': self.model.name, 'sum': self.model.sum, 'runs': runs, 'exact': self.exact, 'note': self.note(),
                 'counts': {kind: {'covered': came, 'all': all_} for kind, (came, all_) in self.parts_covered().items()},
                 'missing': missing}
 

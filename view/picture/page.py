@@ -75,7 +75,7 @@ def page_of(sheets, lines, end, gaps, run):
     items = ['<li>%s%s: %s</li>' % (escape(what), ' <code>%s</code>' % escape(text) if text else '', escape(why))
              for what, text, why in gaps.items()]
     return Template(part('page.html')).substitute(
-        name=escape(sheets.model.name), run=escape(run),
+        name=escape(sheets.model.name), run=escape(run), sum=sheets.model.sum,
         style=part('page.css') + style_in_page() + part('run.css') + part('print.css'),
         drawings='\n'.join(drawing_in_page(sheets, drawn, gaps) for drawn in sheets.all),
         summary='Coverage: ' + escape(gaps.head()), gap_items='\n'.join(items) or '<li>nothing is without a sign</li>',

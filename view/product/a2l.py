@@ -72,7 +72,8 @@ class Writer:
         chart = self.table['chart']
         order = 'MSB_FIRST' if self.big_endian else 'MSB_LAST'
         return '\n'.join([
-            'ASAP2_VERSION 1 60', '/* Written by flownames. Do not edit. */', '/begin PROJECT %s "the chart %s"' % (chart, chart),
+            'ASAP2_VERSION 1 60', '/* Written by flownames. Do not edit. */',
+            '/begin PROJECT %s "the chart %s, sum %s"' % (chart, chart, self.table['sum']),
             '  /begin MODULE %s ""' % chart, '    /begin MOD_COMMON ""', '      BYTE_ORDER %s %s' % (order, ALIGNMENTS),
             '    /end MOD_COMMON', *self.methods.values(), *self.measurements, '    /begin GROUP all_%s "" ROOT' % chart,
             '      /begin REF_MEASUREMENT %s /end REF_MEASUREMENT' % ' '.join(self.names), '    /end GROUP', '  /end MODULE',

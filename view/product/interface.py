@@ -3,6 +3,7 @@ import re
 from typing import NamedTuple, Optional
 
 ENUM = re.compile(r'enum \{ (\w+) = (\d+) \};')
+SUM = re.compile(r'enum \{ (?:\w+_SUM_[0-3] = 0x[0-9a-f]{4}(?:, )?){4} \};')
 STRUCT = re.compile(r'typedef struct \{\n(.*?)\n\} (\w+)_chart;', re.DOTALL)
 FIELD = re.compile(r'\s*(\w+) (\w+)(?:\[(\d+)\])?; /\* (.*?) \*/', re.DOTALL)
 TEST = re.compile(r'/\* Whether ([\w/]+) is active\. \*/\nstatic inline bool (\w+)\(const \w+ \*m\)\n\{\n    return (.*?);\n\}',
@@ -37,7 +38,7 @@ class Test(NamedTuple):
 
 
 class Interface:
-    """The names of a header. `prefix` is what the names of the chart begin with."""
+    """The names of a header. `prefix` is what the names of the chart begin with, and `sum` the sum of the chart."""
 
     def __init__(self, header):
         struct = STRUCT.search(header)
@@ -45,9 +46,9 @@ class Interface:
             raise NoHeader('it has no struct of a chart')
         self.prefix = struct[2]
         self.constants = {name[len(self.prefix) + 1:]: int(value) for name, value in ENUM.findall(header)}
+        self.sum = sum_of(header)
         self.fields, self.size = fields_of(struct[1])
         self.tests = {path: test_of(name, body) for path, name, body in TEST.findall(header)}
-        self.has_init = re.search(r'\bbool %s_init\(' % self.prefix, header) is not None
 
     def event(self, name):
         """The number of an input or output event; of a local one there is none."""
@@ -73,6 +74,14 @@ class Interface:
             found = CHILDREN.fullmatch(' '.join(field.comment.split()))
             if found:
                 yield field, {int(number): name for number, name in re.findall(r'(\d+) (\w+)', found[1])}
+
+
+def sum_of(header):
+    """The sum of the chart, whose four parts a header has. NoHeader where there are none."""
+    found = SUM.search(header)
+    if not found:
+        raise NoHeader('it has no sum of a chart')
+    return ''.join(re.findall(r'0x(\w{4})', found[0]))
 
 
 def fields_of(text):

@@ -4,6 +4,7 @@ import sys
 import common                                # noqa: F401, which finds the folder checks
 from chart_check import check_chart
 from chart_syntax import Fault
+from common.chart_sum import sum_of_text
 from common.program import REFUSED, find_chart_to_c, read_file, run
 from product.interface import Interface, NoHeader
 
@@ -13,10 +14,10 @@ class Refused(Exception):
 
 
 def read_chart(name):
-    """The chart of a file. Refused where it has a fault."""
+    """The chart of a file, and its sum. Refused where it has a fault."""
     text = read_file(name)
     try:
-        return check_chart(text)
+        return check_chart(text), sum_of_text(text)
     except Fault as fault:
         raise Refused('%s\n%s: the chart is refused; flowwhy says why' % (fault.written(text), name)) from None
 

@@ -9,14 +9,17 @@ from product.interface import NoHeader
 FIELD = {'input': 'in_', 'output': 'out_', 'local': 'loc_'}
 
 
-def table_of(chart, interface):
-    """All names of a chart, as JSON has them. NoHeader where the header isn't of the chart."""
+def table_of(chart, chart_sum, interface):
+    """All names of a chart with that sum, as JSON has them. NoHeader where the header isn't of the chart."""
     numbers = {child: (field, number) for field, _, children in children_of(chart, interface) for number, child in children.items()}
     missing = [each.path() for each in chart.states if each.parent and each.path() not in interface.tests]
     if missing or len(interface.tests) != len(chart.states) - 1:
         raise NoHeader('its states are not those of the chart')
+    if interface.sum != chart_sum:
+        raise NoHeader('its sum is %s, and that of the chart %s' % (interface.sum, chart_sum))
     return {
-        'chart': chart.root.name, 'prefix': interface.prefix, 'struct': interface.prefix + '_chart', 'size': interface.size,
+        'chart': chart.root.name, 'sum': chart_sum, 'prefix': interface.prefix, 'struct': interface.prefix + '_chart',
+        'size': interface.size,
         'events': [event_row(each, interface) for each in chart.events] + [
             {'name': 'tick', 'kind': 'tick', 'number': interface.tick(), 'constant': interface.prefix + '_TICK'}],
         'data': [datum_row(number, each, interface) for number, each in enumerate(chart.data)],
@@ -90,8 +93,9 @@ struct {p}_names_state {{
 def header_text(table, interface):
     """A header in C with the names, which refuses another header of the chart and another layout of its struct."""
     p = table['prefix']
-    lines = ['/* Names of the chart %s, for logs and bench tools, written by flownames. Do not edit. */' % table['chart'],
-             '#ifndef FLOW_%s_NAMES_H' % p, '#define FLOW_%s_NAMES_H' % p, '', '#include "%s.h"' % table['chart'],
+    lines = ['/* Names of the chart %s, sum %s, for logs and bench tools, written by flownames. Do not edit. */' % (
+        table['chart'], table['sum']), '#ifndef FLOW__%s__NAMES' % p, '#define FLOW__%s__NAMES' % p, '',
+             '#include "%s.h"' % table['chart'],
              '#include <stddef.h>', '', STRUCTS.format(p=p)]
     for what in ('events', 'faults'):
         lines += array('number', p, what, ['{"%s", %s}' % (each['name'], each['constant'])
@@ -102,9 +106,10 @@ def header_text(table, interface):
     lines += array('state', p, 'states', ['{"%s", %s}' % (each['path'], each['test']) for each in table['states']])
     numbers = ['%s == %d' % (each['constant'], each['number']) for each in [*table['events'], *table['faults']] if each['constant']]
     places = ['offsetof(%s_chart, %s) == %d' % (p, each.name, each.offset) for each in interface.fields]
-    checks = ' &&\n    '.join(['sizeof(%s_chart) == %d' % (p, table['size']), *places, *numbers])
-    lines += ['/* C refuses this type where the header of the chart has other numbers, or where the struct has another layout than',
-              '   the one that flownames writes for calibration tools. */',
+    sums = ['%s_SUM_%d == 0x%s' % (p, at, table['sum'][4 * at:4 * at + 4]) for at in range(4)]
+    checks = ' &&\n    '.join(['sizeof(%s_chart) == %d' % (p, table['size']), *places, *numbers, *sums])
+    lines += ['/* C refuses this type where the header is of another chart or has other numbers, or where the struct has another',
+              '   layout than the one that flownames writes for calibration tools. */',
               'typedef char %s_names_fit[(%s) ? 1 : -1];' % (p, checks), '', '#endif']
     return '\n'.join(lines) + '\n'
 

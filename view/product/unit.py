@@ -84,7 +84,7 @@ def description(table, guid, files, version):
     """The file modelDescription.xml."""
     variables = variables_of(table)
     head = attributes([('fmiVersion', '2.0'), ('modelName', table['chart']), ('guid', guid),
-                       ('description', 'the chart %s' % table['chart']), ('generationTool', version),
+                       ('description', 'the chart %s, sum %s' % (table['chart'], table['sum'])), ('generationTool', version),
                        ('variableNamingConvention', 'flat'), ('numberOfEventIndicators', 0)])
     lines = ['<?xml version="1.0" encoding="UTF-8"?>', '<fmiModelDescription%s>' % head]
     lines.append('  <CoSimulation%s>' % attributes([
@@ -117,17 +117,15 @@ TYPES = {'bool': 'FLAG', **{'%sint%d_t' % (sign, bits): '%s%d' % ('U' if sign el
                             for sign in ('', 'u') for bits in (8, 16, 32, 64)}}
 
 
-def model_text(table, interface, guid):
+def model_text(table, guid):
     """The file model.h."""
     p = table['prefix']
     variables, events, outputs = variables_of(table), taken(table), emitted(table)
     lines = ['/* The chart %s, for fmu.c. Written by flowfmu. Do not edit. */' % table['chart'], '#include "%s.h"' % table['chart'],
              '#define GUID "%s"' % guid, '#define MODEL_PREFIX %s_' % p, '#define CHART %s_chart' % p,
-             '#define START %s_start' % p, '#define REACT %s_react' % p, '#define HAS_INIT %d' % interface.has_init]
-    if interface.has_init:
-        lines.append('#define INIT %s_init' % p)
-    lines.append('enum { DATA = %d, EVENTS = %d, OUTPUTS = %d, VALUES = %d };' % (
-        len(table['data']), len(events), len(outputs), len(variables)))
+             '#define INIT %s_init' % p, '#define START %s_start' % p, '#define REACT %s_react' % p,
+             'enum { DATA = %d, EVENTS = %d, OUTPUTS = %d, VALUES = %d };' % (
+                 len(table['data']), len(events), len(outputs), len(variables))]
     lines += array('struct datum data', ['{offsetof(CHART, %s), %s, %r, %s, %dU, %s}' % (
         each['field'], TYPES[each['c_type']], each['step'], whole(each['least_mantissa']), each['greatest_mantissa'],
         'true' if each['kind'] == 'input' else 'false') for each in table['data']] or ['{0, FLAG, 1.0, 0, 1U, false}'])

@@ -75,7 +75,6 @@ struct run {
     bool begun;
     int32_t wanted[EVENTS], done[EVENTS]; /* how often each event was asked for, and how often it was processed */
     int32_t emitted[OUTPUTS + 1];
-    CHART inputs; /* the inputs alone count: those that are stored before the start */
 };
 
 struct instance {
@@ -163,44 +162,20 @@ static void count_outputs(struct run *run)
     }
 }
 
-/* Copies the inputs that were stored before the start. */
-static void copy_inputs(CHART *to, const CHART *from)
-{
-    static const size_t sizes[] = {sizeof(bool), 1, 1, 2, 2, 4, 4, 8, 8};
-    for (unsigned each = 0; each != DATA; each++) {
-        if (data[each].is_input) {
-            memcpy((char *)to + data[each].offset, (const char *)from + data[each].offset, sizes[data[each].type]);
-        }
-    }
-}
-
-/* Starts the chart: with the inputs that were stored, where its C has a call of its own that stores the first values. */
+/* Enters the chart, with the inputs that were stored. */
 static bool begin(struct run *run)
 {
-    bool went;
-#if HAS_INIT
-    INIT(&run->chart);
-    copy_inputs(&run->chart, &run->inputs);
-    went = START(&run->chart);
-#else
-    went = START(&run->chart);
-    copy_inputs(&run->chart, &run->inputs);
-#endif
+    bool went = START(&run->chart);
     run->begun = true;
     count_outputs(run);
     return went;
 }
 
-/* An instance before its start. The first values are those that the chart gives. */
+/* An instance before its start: data have their first values, and inputs may be stored. */
 static void reset(struct run *run)
 {
     memset(run, 0, sizeof *run);
-#if HAS_INIT
-    INIT(&run->inputs);
-#else
-    START(&run->inputs);
-#endif
-    run->chart = run->inputs;
+    INIT(&run->chart);
 }
 
 /* Processes the events that were asked for since the last step, in the order of the chart, the one without a name last. */
@@ -360,11 +335,11 @@ static const struct value *value_of(fmi2ValueReference reference, char type)
 static double number_of(const struct run *run, const struct value *value)
 {
     switch (value->kind) {
-    case DATUM: return load(data[value->place].is_input && !run->begun ? &run->inputs : &run->chart, &data[value->place]);
+    case DATUM: return load(&run->chart, &data[value->place]);
     case EVENT: return run->wanted[value->place];
     case OUTPUT: return run->emitted[value->place];
-    case STATE: return run->begun && is_active(&run->chart, value->place) ? 1.0 : 0.0;
-    default: return run->begun ? run->chart.fault : 0.0;
+    case STATE: return is_active(&run->chart, value->place) ? 1.0 : 0.0;
+    default: return run->chart.fault;
     }
 }
 
@@ -413,7 +388,7 @@ static fmi2Status set(struct instance *of, const struct value *value, double num
         }
         of->run.wanted[value->place] = (int32_t)number;
     } else {
-        store(of->run.begun ? &of->run.chart : &of->run.inputs, &data[value->place], number);
+        store(&of->run.chart, &data[value->place], number);
     }
     return fmi2OK;
 }

@@ -1,8 +1,10 @@
 //! What the names of a header promise, for all charts at once.
 ghost use Rattle.std.specs.Prelude.{◌≡◌, ◌≢◌, ◌<◌, ◌^◌, ◌++◌, ℕ, List, [], length, false, true};
-ghost use Rattle.std.specs.Prelude.{slice_index_or};
+ghost use Rattle.std.specs.Prelude.{codes, map, slice_index_or};
+ghost use Rattle.std.specs.List.{list_all};
 ghost use Rattle.active_config.specs.Tree.{Tree, IsTree, state_count};
 ghost use Rattle.actions.specs.Names.{Names};
+ghost use Rattle.actions.specs.declared.names.Var.{Var};
 ghost use Rattle.chart_lexer.specs.Words.{is_name};
 ghost use Rattle.chart_parts.specs.Plain.{IsPlain};
 ghost use Rattle.c_subset.specs.declared.trees.CType.{CType};
@@ -14,7 +16,7 @@ ghost use Rattle.c_header.specs.declared.paths.Form.TheVariants.{Label};
 ghost use Rattle.c_header.specs.Header.{struct_text};
 ghost use Rattle.c_header.specs.Paths.{path_text};
 ghost use Rattle.c_names.specs.Reserved.{is_reserved};
-ghost use Rattle.c_names.specs.Stems.{guard_of_chart};
+ghost use Rattle.c_names.specs.Stems.{guard_of_chart, name_of_chart};
 ghost use Rattle.c_header.specs.Scope.{HasNamedTree, scope_labels};
 ghost use Rattle.c_header.specs.Struct.{DeclaresStruct, IsAny, struct_fields, struct_rows};
 
@@ -57,6 +59,18 @@ pub fn the_name_that_is_replaced_is_no_other()
         → slice_index_or (row_labels ++ field_labels L) i [] ≢ guard_of_chart chart }
     ensures locals { (chart : List ℕ) (kind : Kind) (t : CType) (k : ℕ)
         → local_label kind t k ≢ guard_of_chart chart }
+{}
+
+/// The name by which a compiler is told that functions may call themselves, which is a macro
+/// there, is that of no array, field or local.
+pub fn the_name_that_is_told_is_no_other()
+    ensures members { (chart : List ℕ) (L : Labels) (i : ℕ) → is_name chart ≡ true
+        → list_all is_name (map (λ (v : Var). v.name) L.names.vars) ≡ true
+        → i < length (row_labels ++ field_labels L)
+        → slice_index_or (row_labels ++ field_labels L) i []
+        ≢ name_of_chart chart (codes "MAY_RECURSE") }
+    ensures locals { (chart : List ℕ) (kind : Kind) (t : CType) (k : ℕ)
+        → local_label kind t k ≢ name_of_chart chart (codes "MAY_RECURSE") }
 {}
 
 /// The header declares the struct of the file: with its fields and arrays in their order, of their

@@ -6,7 +6,6 @@ ghost use Rattle.active_config.specs.Tree.{Tree, IsTree, state_count};
 ghost use Rattle.actions.specs.Names.{Names};
 ghost use Rattle.actions.specs.declared.names.Var.{Var};
 ghost use Rattle.chart_lexer.specs.Words.{is_name};
-ghost use Rattle.chart_parts.specs.Plain.{IsPlain};
 ghost use Rattle.c_subset.specs.declared.trees.CType.{CType};
 ghost use Rattle.c_functions.specs.Plans.{Shape};
 ghost use Rattle.c_text.specs.declared.kinds.Kind.{Kind};
@@ -18,7 +17,7 @@ ghost use Rattle.c_header.specs.Paths.{path_text};
 ghost use Rattle.c_names.specs.Reserved.{is_reserved};
 ghost use Rattle.c_names.specs.Stems.{guard_of_chart, name_of_chart};
 ghost use Rattle.c_header.specs.Scope.{HasNamedTree, scope_labels};
-ghost use Rattle.c_header.specs.Struct.{DeclaresStruct, IsAny, struct_fields, struct_rows};
+ghost use Rattle.c_header.specs.Struct.{DeclaresStruct, IsAny, IsInside, struct_fields, struct_rows};
 
 /// Different states of a chart have different names in C; and all names that its header and its
 /// source give at file scope are pairwise different, and different from the name that the header's
@@ -74,14 +73,14 @@ pub fn the_name_that_is_told_is_no_other()
 {}
 
 /// The header declares the struct of the file: with its fields and arrays in their order, of their
-/// types and sizes, each with a comment. Where the chart and its states have names, each comment is
-/// one line in which no comment of C ends.
+/// types and sizes, each with a comment. Where the chart and its states have names, no comment of C
+/// ends in one of these.
 pub fn the_header_declares_the_struct()
     ensures declares { (chart : List ℕ) (K : Shape) → IsTree K.tree
         → DeclaresStruct IsAny (labels_for chart K.names K.tree K.procs) (struct_fields K)
         (struct_rows K) (struct_text chart (labels_for chart K.names K.tree K.procs) K) }
     ensures comments { (chart : List ℕ) (K : Shape) → is_name chart ≡ true
         → HasNamedTree K.tree K.names
-        → DeclaresStruct IsPlain (labels_for chart K.names K.tree K.procs) (struct_fields K)
+        → DeclaresStruct IsInside (labels_for chart K.names K.tree K.procs) (struct_fields K)
         (struct_rows K) (struct_text chart (labels_for chart K.names K.tree K.procs) K) }
 {}

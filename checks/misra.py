@@ -23,7 +23,8 @@ from programs import ended, parser
 KNOWN = ['15.5', '17.8']
 ADDONS = ['/usr/lib/*/cppcheck/addons/misra.py', '/usr/share/cppcheck/addons/misra.py']
 # cppcheck doesn't read the headers of the compiler: these stand for what is used of them beyond names of types.
-TARGET = ['--std=c99', '--platform=unix64', '-DUINT_MAX=4294967295u', '-DINT64_C(x)=x', '-DUINT64_C(x)=x##u']
+LIMITS = ['-DUINT_MAX=4294967295u', '-DINT_MAX=2147483647', '-DINT_MIN=(-2147483647-1)', '-D__SIZEOF_INT128__=16']
+TARGET = ['--std=c99', '--platform=unix64', *LIMITS, '-DINT64_C(x)=x', '-DUINT64_C(x)=x##u']
 
 
 def broken(path, program, addon):

@@ -67,7 +67,8 @@ def read(folder, name):
 
 def struct_size(chart, folder):
     """The bytes of the struct, as the size of an array that the compiler lays out."""
-    write(folder, 'struct.c', '#include "%s.h"\nchar struct_size[sizeof (%s_chart)];\n' % (chart, chart))
+    text = '#define %s_MAY_RECURSE\n#include "%s.h"\nchar struct_size[sizeof (%s_chart)];\n' % (chart, chart, chart)
+    write(folder, 'struct.c', text)
     chart_c.output_of(['gcc', '-c', 'struct.c'], folder)
     return int(re.search('([0-9a-f]+) . struct_size', chart_c.output_of(['nm', '-S', 'struct.o'], folder))[1], 16)
 

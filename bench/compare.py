@@ -32,7 +32,7 @@ CHART_TO_C = os.path.join(CRATES, 'chart_to_c', 'out', 'chart_to_c')
 MACHINES = os.path.join(HERE, 'machines')
 COUNTED, TIMES, RUNS, SHOWN = 5_000, 10, 5, 24
 # The functions of the C of a chart, which gcc may have split.
-OF_CHART = re.compile(r'(G_react|p[0-9]+|noted|is_on|is_bare|flow_div[0-9]+)([.].*)?')
+OF_CHART = re.compile(r'(G_(?:react|p[0-9]+|noted|is_on|is_bare|div[0-9]+))([.].*)?')
 
 OTHERS = {'C switch': 'C', 'Boost.Statechart': 'Boost', 'Qt SCXML, C++': 'Qt, C++', 'Qt SCXML, ECMAScript': 'Qt, ECMA'}
 

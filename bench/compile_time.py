@@ -66,7 +66,7 @@ def row(program, kind, folder):
     size = os.path.getsize(os.path.join(folder, 'chart.c'))
     columns = ['`%s`' % kind, '%d' % len(chart.states), '{:,}'.format(size), used_text(used)]
     for compiler in ('gcc', 'clang'):
-        command = [compiler, '-std=c99', '-O2', '-c', 'chart.c', '-o', 'chart.o']
+        command = [compiler, '-std=c99', '-O2', '-D%s_MAY_RECURSE' % chart_c.c_name(chart), '-c', 'chart.c', '-o', 'chart.o']
         columns.append(used_text(measure_right(command, folder)) if shutil.which(compiler) else '-')
     return '| %s |' % ' | '.join(columns)
 

@@ -10,7 +10,8 @@ stands beside `door.chart`. The trace must be the one that stands there too, as 
 `flowc rules`. With `--generated` the generated cases with these numbers are made by generated_cases.py, and run by chart_rules.py for
 the trace, over their first 1,000 events. With `--table` the table of a chart is written.
 
-The header must say that the source needs 128 bits just where it has a type of that size.
+The header must say that the source needs 128 bits just where it has a type of that size. Where it says that functions may call
+themselves, the sources begin by defining the name that tells that they may.
 
 The program ends with status 1 where anything differs, where a compiler has a warning, and where there is no chart.
 
@@ -153,7 +154,8 @@ def make_c(program, text, folder, options=()):
     header, source = (output_of([program, word, *options, 'chart'], folder) for word in ('header', 'source'))
     if ('__int128' in header) != ('__int128' in source):
         raise Failed('the header of %s says otherwise than its source whether 128 bits are needed' % name)
-    may_recurse = '#define %s_MAY_RECURSE\n' % c_name(chart)
+    told = c_name(chart) + '_MAY_RECURSE'
+    may_recurse = '#define %s\n' % told if told in header else ''
     write(folder, '%s.h' % name, header)
     write(folder, '%s.c' % name, may_recurse + source)
     write(folder, 'table_of_%s.c' % name, may_recurse + table)

@@ -29,7 +29,7 @@ from typing import NamedTuple
 import chart_rules as rules
 import random_charts
 from c_runs import words_for
-from chart_c import Failed, field_of, output_of, write
+from chart_c import Failed, c_name, field_of, output_of, write
 from chart_check import check_chart
 from programs import at_least_one, keep_files, parser, print_counts, results_of
 from random_compiled import DEFAULT_BOUNDS, bounds_of
@@ -82,7 +82,7 @@ int main(void)
 %(inputs)s
             runs = %(name)s_react(&chart, events[choose() %% (sizeof events / sizeof events[0])]);
         } else {
-            runs = %(name)s_start(&chart);
+            runs = %(name)s_init(&chart) && %(name)s_start(&chart);
         }
     }
     for (unsigned number = 0u; number < %(count)du; number++) {
@@ -181,7 +181,7 @@ def program_of(chart, source, seed, turns):
     numbers = Numbers(chart)
     source, functions = with_tests(source, numbers)
     parts = {
-        'name': chart.root.name, 'count': len(functions), 'seed': seed, 'turns': turns,
+        'name': c_name(chart), 'count': len(functions), 'seed': seed, 'turns': turns,
         'events': ', '.join('%du' % number for number in [*numbers.inputs, numbers.tick]),
         'inputs': '\n'.join(stored(datum) for datum in chart.data if datum.kind == 'input'),
     }

@@ -22,7 +22,7 @@ from concurrent.futures import ThreadPoolExecutor
 from typing import NamedTuple
 
 import chart_rules as rules
-from chart_c import LONGEST, Failed, field_of, make_c, state_name, write
+from chart_c import LONGEST, Failed, c_name, field_of, make_c, state_name, write
 from chart_check import check_chart
 from programs import ended, parser, status_text
 
@@ -33,7 +33,7 @@ SUMMARY = re.compile(r'\[eva:summary\].*', re.DOTALL)
 # A message of Eva that tells of something: its first line, and those that are set in below it.
 TOLD = re.compile(r'^\[[\w:-]+\] (?:\S+: )?(?:User )?(?:Warning|Error): .*(?:\n +\S.*)*', re.MULTILINE)
 DEFINED = re.compile(r'^(?:static )?\w+ (\w+)\([^)]*\)\n\{$', re.MULTILINE)
-MAIN = '''#include "%(name)s.h"
+MAIN = '''#include "%(file)s.h"
 #include "__fc_builtin.h"
 
 static uint32_t event(void)
@@ -44,16 +44,19 @@ static uint32_t event(void)
 int main(void)
 {
     %(name)s_chart chart;
-    bool runs = false;
+    bool is_set = false;
     if (Frama_C_interval(0, 1)) {
         Frama_C_make_unknown((char *)&chart, sizeof chart);
     }
     while (Frama_C_interval(0, 1)) {
-        if (runs && Frama_C_interval(0, 1)) {
+        if (!is_set || Frama_C_interval(0, 1)) {
+            is_set = %(name)s_init(&chart);
+        }
 %(inputs)s
-            runs = %(name)s_react(&chart, event());
+        if (Frama_C_interval(0, 1)) {
+            (void)%(name)s_start(&chart);
         } else {
-            runs = %(name)s_start(&chart);
+            (void)%(name)s_react(&chart, event());
         }
 %(tests)s
     }
@@ -81,14 +84,14 @@ def declared_event(chart):
     """C that gives a tick or an input event of the chart."""
     names = ['TICK', *('E_' + event.name for event in chart.events if event.kind == 'input')]
     return 'static const uint32_t events[] = {%s};\n    return events[Frama_C_interval(0, %d)];' % (
-        ', '.join('%s_%s' % (chart.root.name, name) for name in names), len(names) - 1)
+        ', '.join('%s_%s' % (c_name(chart), name) for name in names), len(names) - 1)
 
 
 def main_of(chart, is_declared):
     """The program that calls the C of a chart."""
-    name = chart.root.name
+    name = c_name(chart)
     return MAIN % {
-        'name': name, 'event': declared_event(chart) if is_declared else ANY_EVENT,
+        'file': chart.root.name, 'name': name, 'event': declared_event(chart) if is_declared else ANY_EVENT,
         'inputs': '\n'.join(stored(datum) for datum in chart.data if datum.kind == 'input'),
         'tests': '\n'.join('        (void)%s_in_%s(&chart);' % (name, state_name(state)) for state in chart.states if state.parent)}
 
@@ -115,7 +118,7 @@ def said_of(path, name, functions, answer):
     is_silent = alarms and alarms[1] == '0' and 'No errors or warnings raised during the analysis' in summary[0]
     if not is_silent and not lines:
         lines = summary[0].splitlines()
-    lines += ['Eva did not come to %s' % call for call in ('%s_start' % name, '%s_react' % name) if call not in reached]
+    lines += ['Eva did not come to %s' % call for call in ('%s_init' % name, '%s_start' % name, '%s_react' % name) if call not in reached]
     return Found(['%s: %s' % (path, line) for line in lines], len(reached), len(functions))
 
 
@@ -139,7 +142,7 @@ def asked(path, program, is_declared):
         if NEEDS_128_BITS in content:
             return Found([], is_left_out=True)
         caller = write(folder, 'main.c', main_of(chart, is_declared))
-        return said_of(path, chart.root.name, DEFINED.findall(content), ended([*EVA, caller, source], LONGEST, cwd=folder))
+        return said_of(path, c_name(chart), DEFINED.findall(content), ended([*EVA, caller, source], LONGEST, cwd=folder))
 
 
 def main(words):

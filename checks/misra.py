@@ -34,7 +34,8 @@ from programs import ended, parser, status_text
 PAGE = os.path.join(os.path.dirname(os.path.abspath(__file__)), '..', 'docs', 'C.md')
 ROW = re.compile(r'^(\| [^|`]+ \| [^|`]*`([\w.-]+)` \| )([\d,]+)( \| )([\d,]+)( \| .*)$')
 # cppcheck doesn't read the headers of the compiler: these stand for what is used of them beyond names of types.
-TARGET = ['--std=c99', '--platform=unix64', '-DUINT_MAX=4294967295u', '-DINT64_C(x)=x', '-DUINT64_C(x)=x##u']
+LIMITS = ['-DUINT_MAX=4294967295u', '-DINT_MAX=2147483647', '-DINT_MIN=(-2147483647-1)', '-D__SIZEOF_INT128__=16']
+TARGET = ['--std=c99', '--platform=unix64', *LIMITS, '-DINT64_C(x)=x', '-DUINT64_C(x)=x##u']
 CPPCHECK = ['cppcheck', *TARGET, '--enable=all', '--addon=misra', '--quiet', '--template=[{id}]']
 CLANG = ['clang', '--analyze', '-std=c99', '-Xclang', '-analyzer-checker=alpha.deadcode.UnreachableCode', '-o', os.devnull]
 FUNCTION = re.compile(r'^static \w+ (\w+)\((\w+ \*m)?[^)]*\)\n\{\n(.*?)^\}\n', re.DOTALL | re.MULTILINE)

@@ -135,9 +135,10 @@ pub fn files_run_as_code()
 {}
 
 /// The file of well-formed code refuses, for every 32-bit number as the event: any event where no
-/// run goes on; in a run, a number that is neither that of an input event nor that of a tick, and
-/// then the run is over; and the start where a run has begun and the first values weren't stored
-/// since. Where it refuses, the call returns false and nothing else in the struct changes.
+/// run goes on; in a run, a number that is neither that of an input event nor that of a tick, which
+/// is told as a fault of its own and ends the run; and the start where a run has begun and the first
+/// values weren't stored since. Where it refuses, the call returns false, and nothing else in the
+/// struct changes.
 pub fn files_refuse_what_is_no_event()
     ensures { (k : Code) (T : Tests) (b : Bounds) (room : ℕ) (bodies : ℕ → Body) (int : Width) →
         IsCode k → bits int ≤ 32 →

@@ -91,14 +91,23 @@ front_told one other e = at (is_taken one) (is_taken other) refl refl e
     at false true p q same = absurd (never other one p (sym same))
     at false false p q same = same
 
--- none is read as `va`: that one is taken
-pub va_taken : (chart : List ℕ) → front chart ≡ codes "va" → ⊥
+-- none is read as one of the names that are taken
+pub taken_front : (chart name : List ℕ) → list_any (bytes_eq name) taken_names ≡ true → get_or name 0 0 ≢ 102
+    → front chart ≢ name
 unfolding front is_taken
-va_taken chart e = at (is_taken chart) refl e
+taken_front chart name among other e = at (is_taken chart) refl e
   where
-    at : (b : Bool) → is_taken chart ≡ b → cond b (codes "flow_" ++ chart) chart ≡ codes "va" → ⊥
-    at true is same = let first = ap (λ (t : List ℕ). get_or t 0 0) same in omega (arith, first)
-    at false is same = let taken : is_taken chart ≡ true = ap is_taken same in cc
+    at : (b : Bool) → is_taken chart ≡ b → cond b (codes "flow_" ++ chart) chart ≡ name → ⊥
+    at true is same = other (sym (ap (λ (t : List ℕ). get_or t 0 0) same))
+    at false is same =
+        let taken : is_taken chart ≡ true =
+        ap is_taken same
+        ∙ ap (λ (b : Bool). b || (begins_reserved name || starts_with nat_eq name (codes "flow_"))) among in
+        cc
+
+-- as `va`
+pub va_taken : (chart : List ℕ) → front chart ≡ codes "va" → ⊥
+va_taken chart = taken_front chart (codes "va") refl (λ e. omega (arith, e))
 
 -- a text has at least one part
 some_parts : (b : Bool) (text : List ℕ) → 1 ≤ length (parts b text)

@@ -1,5 +1,5 @@
 -- The comments of fields are plain.
-use Rattle.std.proofs.Common.{◌≡◌, ◌+◌, ◌/◌, ◌%◌, ◌==◌, ℕ, zero, suc, Bool, true, false, cond, nat_lt, ℤ, pos}
+use Rattle.std.proofs.Common.{◌≡◌, ◌+◌, ◌/◌, ◌%◌, ◌==◌, ℕ, zero, suc, Bool, true, false, nat_lt, ℤ, pos}
 use Rattle.std.proofs.Common.{negsuc, List, [], ◌∷◌, ◌++◌, map, drop, reverse, codes, decimal, refl, arith}
 use Rattle.std.proofs.Common.{if◌then◌else◌}
 use Rattle.std.specs.Prelude.{slice_index_or}
@@ -24,6 +24,7 @@ use Rattle.chart_parts.proofs.PlainLemmas.{is_plain_byte, tested, plain_append, 
 use Rattle.c_functions.specs.Plans.{Shape}
 use Rattle.c_header.specs.declared.paths.Form.TheVariants.{Words}
 use Rattle.c_header.specs.Paths.{state_name, part_text, path_text, place_text}
+use Rattle.c_header.specs.Struct.{IsInside}
 use Rattle.c_header.specs.Fields.{texts_below, unit_text, limits_text, values_text, child_lead, child_text}
 use Rattle.c_header.specs.Fields.{children_text}
 
@@ -47,16 +48,6 @@ all_tested [] h = tt
 all_tested (text ∷ texts) h =
     let both = and_parts (list_all is_plain_byte text) (list_all (list_all is_plain_byte) texts) h in
     (tested text both.0, all_tested texts both.1)
-
--- a text, where there is one
-pub one_plain : (b : Bool) (x : List ℕ) → IsPlain x → AllByRecursion IsPlain (cond b (x ∷ []) [])
-one_plain true x h = (h, tt)
-one_plain false x h = tt
-
--- the texts of numbers below another one
-below_plain : (text : ℕ → List ℕ) → ((x : ℕ) → IsPlain (text x)) → (n : ℕ) → IsPlain (texts_below text n)
-below_plain text each zero = tt
-below_plain text each (suc n) = plain_append (texts_below text n) (text n) (below_plain text each n) (each n)
 
 -- ---- numbers
 
@@ -117,25 +108,51 @@ module _ (t : Tree) (n : Names) (named : list_all is_name n.states ≡ true) whe
 
 -- ---- children
 
+-- a plain text, and one text after another
+pub inside_of : (text : List ℕ) → IsPlain text → IsInside text
+inside_of [] h = tt
+inside_of (b ∷ bs) h = (h.0.1, inside_of bs h.1)
+
+pub inside_all : (texts : List (List ℕ)) → AllByRecursion IsPlain texts → AllByRecursion IsInside texts
+inside_all [] h = tt
+inside_all (text ∷ texts) h = (inside_of text h.0, inside_all texts h.1)
+
+pub inside_append : (xs ys : List ℕ) → IsInside xs → IsInside ys → IsInside (xs ++ ys)
+inside_append [] ys h g = g
+inside_append (x ∷ xs) ys h g = (h.0, inside_append xs ys h.1 g)
+
+-- either of two
+either_inside : (b : Bool) (x y : List ℕ) → IsInside x → IsInside y → IsInside (if b then x else y)
+either_inside true x y h g = h
+either_inside false x y h g = g
+
+-- the texts of numbers below another one
+below_inside : (text : ℕ → List ℕ) → ((x : ℕ) → IsInside (text x)) → (n : ℕ) → IsInside (texts_below text n)
+below_inside text each zero = tt
+below_inside text each (suc n) = inside_append (texts_below text n) (text n) (below_inside text each n) (each n)
+
 -- what stands before a child
-lead_plain : (p x : ℕ) → IsPlain (child_lead p x)
-lead_plain p x =
-    either_plain (x == p + 1) (codes ": ") (codes ", ") (tested (codes ": ") refl) (tested (codes ", ") refl)
+lead_inside : (p x : ℕ) → IsInside (child_lead p x)
+lead_inside p x =
+    either_inside (x == p + 1) (codes ":\n        ") (codes ",\n        ")
+    (refl, (refl, (refl, (refl, (refl, (refl, (refl, (refl, (refl, (refl, tt))))))))))
+    (refl, (refl, (refl, (refl, (refl, (refl, (refl, (refl, (refl, (refl, tt))))))))))
 
 module _ (K : Shape) (named : list_all is_name K.names.states ≡ true) (p : ℕ) where
   -- a state with its number, if it is a child
-  child_plain : (x : ℕ) → IsPlain (child_text K p x)
-  child_plain x =
-      either_plain (is_child K.tree p x)
+  child_inside : (x : ℕ) → IsInside (child_text K p x)
+  child_inside x =
+      either_inside (is_child K.tree p x)
       (child_lead p x ++ (decimal (K.numbers x) ++ (32 ∷ state_name K.names x))) []
-      (plain_append (child_lead p x) (decimal (K.numbers x) ++ (32 ∷ state_name K.names x)) (lead_plain p x)
+      (inside_append (child_lead p x) (decimal (K.numbers x) ++ (32 ∷ state_name K.names x)) (lead_inside p x)
+      (inside_of (decimal (K.numbers x) ++ (32 ∷ state_name K.names x))
       (plain_append (decimal (K.numbers x)) (32 ∷ state_name K.names x) (decimal_plain (K.numbers x))
-      ((refl, refl), name_at K.names.states named x))) tt
+      ((refl, refl), name_at K.names.states named x)))) tt
 
   -- all children
-  pub children_plain : IsPlain (children_text K p)
+  pub children_inside : IsInside (children_text K p)
   unfolding children_text
-  children_plain = below_plain (child_text K p) child_plain (state_count K.tree)
+  children_inside = below_inside (child_text K p) child_inside (state_count K.tree)
 
 -- ---- data and counters
 

@@ -6,6 +6,7 @@ pub mod NameLists
 pub mod ScopeNames
 pub mod ChartNames
 pub mod ReservedNames
+pub mod ToldNames
 pub mod CommentLemmas
 pub mod StructLemmas
 pub mod GuardLemmas

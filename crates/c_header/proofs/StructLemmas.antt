@@ -29,8 +29,10 @@ use Rattle.c_header.specs.Paths.{place_text}
 use Rattle.c_header.specs.Fields.{texts_below, field_start, field_line, values_text, datum_line, data_text}
 use Rattle.c_header.specs.Fields.{used_words, counters_text, children_text, active_field, last_field, bits_line}
 use Rattle.c_header.specs.Header.{states_text, rows_text, values_fields, states_fields, struct_text}
-use Rattle.c_header.proofs.CommentLemmas.{all_after, all_tested, one_plain, place_plain, children_plain, datum_plain}
-use Rattle.c_header.specs.Struct.{DeclaresStruct, IsAny, struct_fields, struct_rows, member_text, members_text}
+use Rattle.c_header.proofs.CommentLemmas.{all_after, all_tested, place_plain, datum_plain, inside_of, inside_append}
+use Rattle.c_header.proofs.CommentLemmas.{inside_all, children_inside}
+use Rattle.c_header.proofs.NameLists.{all_both}
+use Rattle.c_header.specs.Struct.{DeclaresStruct, IsAny, IsInside, struct_fields, struct_rows, member_text, members_text}
 use Rattle.c_header.specs.Struct.{arrays_text}
 
 -- all texts are texts
@@ -134,12 +136,16 @@ module _ (L : Labels) (first : ℕ) (test : ℕ → Bool) (rank : ℕ → ℕ) (
   comments_below zero = []
   comments_below (suc n) = comments_below n ++ cond (test n) (comment n ∷ []) []
 
-  -- they are plain where each is
-  plain_below : ((x : ℕ) → IsPlain (comment x)) → (n : ℕ) → AllByRecursion IsPlain (comments_below n)
-  plain_below each zero = tt
-  plain_below each (suc n) =
-      all_after (comments_below n) (cond (test n) (comment n ∷ []) []) (plain_below each n)
-      (one_plain (test n) (comment n) (each n))
+  -- no comment of C ends in them where none does in each
+  inside_below : ((x : ℕ) → IsInside (comment x)) → (n : ℕ) → AllByRecursion IsInside (comments_below n)
+  inside_below each zero = tt
+  inside_below each (suc n) =
+      all_both IsInside (comments_below n) (cond (test n) (comment n ∷ []) []) (inside_below each n)
+      (one_inside (test n) (each n))
+    where
+      one_inside : (b : Bool) → IsInside (comment n) → AllByRecursion IsInside (cond b (comment n ∷ []) [])
+      one_inside true h = (h, tt)
+      one_inside false h = tt
 
   -- a field for each of them, one after the other
   record HasLines (limit : ℕ) : Type 0 where
@@ -197,14 +203,15 @@ module _ (chart : List ℕ) (K : Shape) (tree : IsTree K.tree) where
   bits_comment : ℕ → List ℕ
   bits_comment x = codes "bits of the other states"
 
-  -- these are plain where the names of chart and states are names
-  active_plain : IsPlain chart → list_all is_name K.names.states ≡ true → (p : ℕ) → IsPlain (active_comment p)
+  -- no comment ends in these where the names of chart and states are names
+  active_inside : IsPlain chart → list_all is_name K.names.states ≡ true → (p : ℕ) → IsInside (active_comment p)
   unfolding active_comment
-  active_plain plain named p =
-      plain_append (codes "the active child of ") (place_text chart K.tree K.names p ++ children_text K p)
-      (tested (codes "the active child of ") refl)
-      (plain_append (place_text chart K.tree K.names p) (children_text K p)
-      (place_plain K.tree K.names named chart plain p) (children_plain K named p))
+  active_inside plain named p =
+      inside_append (codes "the active child of ") (place_text chart K.tree K.names p ++ children_text K p)
+      (inside_of (codes "the active child of ") (tested (codes "the active child of ") refl))
+      (inside_append (place_text chart K.tree K.names p) (children_text K p)
+      (inside_of (place_text chart K.tree K.names p) (place_plain K.tree K.names named chart plain p))
+      (children_inside K named p))
 
   last_plain : IsPlain chart → list_all is_name K.names.states ≡ true → (p : ℕ) → IsPlain (last_comment p)
   unfolding last_comment
@@ -315,19 +322,20 @@ module _ (chart : List ℕ) (K : Shape) (tree : IsTree K.tree) where
   abbrev all_comments : List (List ℕ)
   all_comments = value_comments ++ (actives ++ (lasts ++ words))
 
-  all_plain : IsPlain chart → list_all is_name K.names.states ≡ true → AllByRecursion IsPlain all_comments
-  all_plain plain named =
-      all_after value_comments (actives ++ (lasts ++ words))
+  all_inside : IsPlain chart → list_all is_name K.names.states ≡ true → AllByRecursion IsInside all_comments
+  all_inside plain named =
+      all_both IsInside value_comments (actives ++ (lasts ++ words))
+      (inside_all value_comments
       (all_after (map datum_comment K.names.vars) (counter_comments K.tests.steps) (data_plain K.names.vars)
-      (counters_plain K.tests.steps))
-      (all_after actives (lasts ++ words)
-      (plain_below labels 0 has_child (or_rank K.tree) active_comment (active_field chart labels K)
-      (active_plain plain named) (state_count K.tree))
-      (all_after lasts words
-      (plain_below labels 0 has_child (or_rank K.tree) last_comment (last_field chart labels K)
-      (last_plain plain named) (state_count K.tree))
-      (plain_below labels first_word begins_word (λ n. (n + 31) / 32) bits_comment word_text bits_plain
-      (state_count K.tree))))
+      (counters_plain K.tests.steps)))
+      (all_both IsInside actives (lasts ++ words)
+      (inside_below labels 0 has_child (or_rank K.tree) active_comment (active_field chart labels K)
+      (active_inside plain named) (state_count K.tree))
+      (all_both IsInside lasts words
+      (inside_below labels 0 has_child (or_rank K.tree) last_comment (last_field chart labels K)
+      (λ p. inside_of (last_comment p) (last_plain plain named p)) (state_count K.tree))
+      (inside_below labels first_word begins_word (λ n. (n + 31) / 32) bits_comment word_text
+      (λ x. inside_of (bits_comment x) (bits_plain x)) (state_count K.tree))))
 
   value_lines : values_fields labels K ≡ lines_from labels 0 value_comments
   unfolding values_fields
@@ -460,7 +468,8 @@ module _ (chart : List ℕ) (K : Shape) (tree : IsTree K.tree) where
   pub declares : DeclaresStruct IsAny labels (struct_fields K) (struct_rows K) (struct_text chart labels K)
   declares = declares_with IsAny (all_any all_comments) (all_any row_comments_are)
 
-  -- and with plain ones where the names of chart and states are names
-  pub declares_plainly : IsPlain chart → list_all is_name K.names.states ≡ true
-      → DeclaresStruct IsPlain labels (struct_fields K) (struct_rows K) (struct_text chart labels K)
-  declares_plainly plain named = declares_with IsPlain (all_plain plain named) rows_plain
+  -- and with ones in which no comment of C ends, where the names of chart and states are names
+  pub declares_inside : IsPlain chart → list_all is_name K.names.states ≡ true
+      → DeclaresStruct IsInside labels (struct_fields K) (struct_rows K) (struct_text chart labels K)
+  declares_inside plain named =
+      declares_with IsInside (all_inside plain named) (inside_all row_comments_are rows_plain)

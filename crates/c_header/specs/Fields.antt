@@ -73,9 +73,9 @@ counters_text L counted f =
 
 -- ---- states
 
--- what stands before a child: the first child of a state has the number after its own
+-- what stands before a child, which has a line of its own: the first child of a state has the number after its own
 abbrev pub child_lead : ℕ → ℕ → List ℕ
-child_lead p x = if x == p + 1 then codes ": " else codes ", "
+child_lead p x = if x == p + 1 then codes ":\n        " else codes ",\n        "
 
 -- a child of an OR, after the number that stands for it in the field
 abbrev pub child_text : Shape → ℕ → ℕ → List ℕ

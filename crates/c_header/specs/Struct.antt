@@ -1,5 +1,5 @@
 -- That a text declares a struct: its fields and arrays, in their order, with their types and sizes.
-use Rattle.std.specs.Prelude.{◌≡◌, ℕ, List, [], ◌∷◌, ◌++◌, length, map, codes, decimal}
+use Rattle.std.specs.Prelude.{◌≡◌, ℕ, nat_eq, false, List, [], ◌∷◌, ◌++◌, length, map, codes, decimal}
 use Rattle.std.specs.List.{AllByRecursion}
 use Rattle.c_subset.specs.Trees.{Row}
 use Rattle.c_subset.specs.declared.trees.CType.{CType}
@@ -47,8 +47,12 @@ arrays_text chart (row ∷ rows) (name ∷ names) (comment ∷ comments) =
 abbrev pub IsAny : List ℕ → Type 0
 IsAny text = Unit {0}
 
--- The text declares a struct of these fields and arrays, with a name for each, and a comment of this kind: `IsPlain`
--- where it is one line in which no comment of C ends
+-- no comment of C ends in a text
+abbrev pub IsInside : List ℕ → Type 0
+IsInside text = AllByRecursion (λ b. nat_eq b 42 ≡ false) text
+
+-- The text declares a struct of these fields and arrays, with a name for each, and a comment of this kind: `IsInside`
+-- where no comment of C ends in it
 pub record DeclaresStruct (IsComment : List ℕ → Type 0) (L : Labels) (fields : List CType) (rows : List Row)
     (text : List ℕ) : Type 0 where
   pub comments : List (List ℕ)

@@ -1,10 +1,11 @@
 //! What the names of a header promise, for all charts at once.
 ghost use Rattle.std.specs.Prelude.{◌≡◌, ◌≢◌, ◌<◌, ◌^◌, ◌++◌, ℕ, List, [], length, false, true};
-ghost use Rattle.std.specs.Prelude.{slice_index_or};
+ghost use Rattle.std.specs.Prelude.{codes, map, slice_index_or};
+ghost use Rattle.std.specs.List.{list_all};
 ghost use Rattle.active_config.specs.Tree.{Tree, IsTree, state_count};
 ghost use Rattle.actions.specs.Names.{Names};
+ghost use Rattle.actions.specs.declared.names.Var.{Var};
 ghost use Rattle.chart_lexer.specs.Words.{is_name};
-ghost use Rattle.chart_parts.specs.Plain.{IsPlain};
 ghost use Rattle.c_subset.specs.declared.trees.CType.{CType};
 ghost use Rattle.c_functions.specs.Plans.{Shape};
 ghost use Rattle.c_text.specs.declared.kinds.Kind.{Kind};
@@ -14,9 +15,9 @@ ghost use Rattle.c_header.specs.declared.paths.Form.TheVariants.{Label};
 ghost use Rattle.c_header.specs.Header.{struct_text};
 ghost use Rattle.c_header.specs.Paths.{path_text};
 ghost use Rattle.c_names.specs.Reserved.{is_reserved};
-ghost use Rattle.c_names.specs.Stems.{guard_of_chart};
+ghost use Rattle.c_names.specs.Stems.{guard_of_chart, name_of_chart};
 ghost use Rattle.c_header.specs.Scope.{HasNamedTree, scope_labels};
-ghost use Rattle.c_header.specs.Struct.{DeclaresStruct, IsAny, struct_fields, struct_rows};
+ghost use Rattle.c_header.specs.Struct.{DeclaresStruct, IsAny, IsInside, struct_fields, struct_rows};
 
 /// Different states of a chart have different names in C; and all names that its header and its
 /// source give at file scope are pairwise different, and different from the name that the header's
@@ -59,15 +60,27 @@ pub fn the_name_that_is_replaced_is_no_other()
         → local_label kind t k ≢ guard_of_chart chart }
 {}
 
+/// The name by which a compiler is told that functions may call themselves, which is a macro
+/// there, is that of no array, field or local.
+pub fn the_name_that_is_told_is_no_other()
+    ensures members { (chart : List ℕ) (L : Labels) (i : ℕ) → is_name chart ≡ true
+        → list_all is_name (map (λ (v : Var). v.name) L.names.vars) ≡ true
+        → i < length (row_labels ++ field_labels L)
+        → slice_index_or (row_labels ++ field_labels L) i []
+        ≢ name_of_chart chart (codes "MAY_RECURSE") }
+    ensures locals { (chart : List ℕ) (kind : Kind) (t : CType) (k : ℕ)
+        → local_label kind t k ≢ name_of_chart chart (codes "MAY_RECURSE") }
+{}
+
 /// The header declares the struct of the file: with its fields and arrays in their order, of their
-/// types and sizes, each with a comment. Where the chart and its states have names, each comment is
-/// one line in which no comment of C ends.
+/// types and sizes, each with a comment. Where the chart and its states have names, no comment of C
+/// ends in one of these.
 pub fn the_header_declares_the_struct()
     ensures declares { (chart : List ℕ) (K : Shape) → IsTree K.tree
         → DeclaresStruct IsAny (labels_for chart K.names K.tree K.procs) (struct_fields K)
         (struct_rows K) (struct_text chart (labels_for chart K.names K.tree K.procs) K) }
     ensures comments { (chart : List ℕ) (K : Shape) → is_name chart ≡ true
         → HasNamedTree K.tree K.names
-        → DeclaresStruct IsPlain (labels_for chart K.names K.tree K.procs) (struct_fields K)
+        → DeclaresStruct IsInside (labels_for chart K.names K.tree K.procs) (struct_fields K)
         (struct_rows K) (struct_text chart (labels_for chart K.names K.tree K.procs) K) }
 {}

@@ -26,4 +26,5 @@ pub use laws::{
     names_of_the_header_are_distinct, names_of_two_charts_are_different,
     no_name_of_the_header_is_a_keyword, no_name_of_the_header_is_reserved,
     the_header_declares_the_struct, the_name_that_is_replaced_is_no_other,
+    the_name_that_is_told_is_no_other,
 };

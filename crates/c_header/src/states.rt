@@ -158,14 +158,15 @@ fn is_child(tree: &Shape, parent: u32, state: u32) -> bool
     }
 }
 
-/// What stands before a child: the first one stands next to its parent.
+/// What stands before a child, which has a line of its own: the first one stands next to its
+/// parent.
 fn child_lead(parent: u32, state: u32) -> &'static str
     ensures { result.now ≡ fields.child_lead parent state }
 {
     if u64::from(state) == u64::from(parent) + 1 {
-        ": "
+        ":\n        "
     } else {
-        ", "
+        ",\n        "
     }
 }
 

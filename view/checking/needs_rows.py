@@ -18,8 +18,8 @@ from needs.ties import ties_of
 
 TABLE = 'needs_table.txt'
 # The functions that are of no part of a chart.
-OF_NONE = ('whether a state is active and has no active child', 'the start', 'a reaction', 'the end mark',
-           'the greatest whole number that is at most a / b')
+OF_NONE = ('whether a state is active and has no active child', 'the first values of all data', 'the start', 'a reaction',
+           'the end mark', 'the greatest whole number that is at most a / b')
 EXAMPLES = ('motor/motor', 'net/monitor', 'recipes/to_history', 'semantics/default_path')
 
 

@@ -14,13 +14,26 @@ from fractions import Fraction
 
 from checking.calibration import read
 from checking.unit import ERROR, FUNCTIONS, OK, Unit, description_faults
-from chart_rules import value_text
+from chart_rules import run_rules, value_text
 from common import CHECKOUT, VIEW
 from common.program import read_file
 from traces.lines import read_trace
 
 NAMED = ('examples/pump/pump', 'checks/c_charts/wide')
 UNITS = ('examples/motor/motor', 'examples/semantics/overflow_error', 'checks/c_charts/wide')
+# A chart with `_` in its name, whose functions may call themselves, and events for it.
+CALLING = '''chart Calls_back {
+  event input GO;
+  input x : uint8;
+  local n : uint8;
+  default -> S_1;
+  junction a { [x > 3 && n < 20] { n = n + 1; } -> @b; [x > 1] -> T; }
+  junction b { [n > 7] { n = n + 1; } -> @a; [x == 0] -> T; }
+  state S_1 { outer GO -> @a; }
+  state T { }
+}
+'''
+CALLING_EVENTS = b'tick\n' + b'GO x=4\n' * 9
 ADDRESS = 0x20000100
 WARNINGS = '-std=c99 -Wall -Wextra -Wconversion -Wsign-conversion -Werror'.split(' ')
 
@@ -44,6 +57,14 @@ def tool(name, *words):
 def write(folder, name, text):
     with open(os.path.join(folder, name), 'w', encoding='ascii') as file:
         file.write(text)
+
+
+def stems(names, folder):
+    """Where the charts and their traces stand: those of the checkout, and that whose functions may call themselves."""
+    stem = os.path.join(folder, 'calling')
+    write(folder, 'calling.chart', CALLING)
+    write(folder, 'calling.trace', run_rules(CALLING, CALLING_EVENTS).out)
+    return [*(os.path.join(CHECKOUT, name) for name in names), stem]
 
 
 def inputs_of(table, line):
@@ -105,15 +126,21 @@ def main_text(table, lines):
 
 def wrong_names(chart_to_c):
     """What is wrong with the names of some charts, and how many lines of traces were looked at."""
+    return wrong_charts(NAMED, lambda stem, folder: wrong_names_of(chart_to_c, stem, folder))
+
+
+def wrong_charts(names, wrong_chart):
+    """What is wrong with some charts, and how many lines of traces were looked at."""
     lines, seen = [], 0
-    for stem in NAMED:
-        with tempfile.TemporaryDirectory() as folder:
-            try:
-                found, count = wrong_names_of(chart_to_c, os.path.join(CHECKOUT, stem), folder)
-            except (Failed, ValueError, KeyError) as fault:
-                found, count = [repr(fault)], 0
-        lines += ['%s: %s' % (stem, each) for each in found]
-        seen += count
+    with tempfile.TemporaryDirectory() as made:
+        for stem in stems(names, made):
+            with tempfile.TemporaryDirectory() as folder:
+                try:
+                    found, count = wrong_chart(stem, folder)
+                except (Failed, ValueError, KeyError, AttributeError, OSError) as fault:
+                    found, count = [repr(fault)], 0
+            lines += ['%s: %s' % (os.path.basename(stem), each) for each in found]
+            seen += count
     return lines, seen
 
 
@@ -127,7 +154,8 @@ def wrong_names_of(chart_to_c, stem, folder):
     write(folder, table['chart'] + '_names.h', ran(tool('flownames', chart, '--as', 'c', *given), folder))
     a2l = ran(tool('flownames', chart, '--as', 'a2l', '--address', hex(ADDRESS), '--symbol', 'chart', *given), folder)
     write(folder, 'main.c', main_text(table, trace))
-    ran(['cc', *WARNINGS, 'main.c', table['chart'] + '.c', '-o', 'main'], folder)
+    allowed = ['-D' + each for each in re.findall(r'!defined\((\w+_MAY_RECURSE)\)', header)]
+    ran(['cc', *WARNINGS, *allowed, 'main.c', table['chart'] + '.c', '-o', 'main'], folder)
     told = ran(['./main'], folder).split('\n')[:-1]
     rows = [each for each in told if each.startswith(('event ', 'fault ', 'datum '))]
     lines = [] if rows == rows_of(table) else ['the header says %s' % rows]
@@ -175,16 +203,7 @@ def wrong_line(table, measurements, methods, line, wrote):
 
 def wrong_units(chart_to_c):
     """What is wrong with the units of some charts, and how many lines of traces were looked at."""
-    lines, seen = [], 0
-    for stem in UNITS:
-        with tempfile.TemporaryDirectory() as folder:
-            try:
-                found, count = wrong_unit(chart_to_c, os.path.join(CHECKOUT, stem), folder)
-            except (Failed, ValueError, KeyError, AttributeError, OSError) as fault:
-                found, count = [repr(fault)], 0
-        lines += ['%s: %s' % (stem, each) for each in found]
-        seen += count
-    return lines, seen
+    return wrong_charts(UNITS, lambda stem, folder: wrong_unit(chart_to_c, stem, folder))
 
 
 def wrong_unit(chart_to_c, stem, folder):

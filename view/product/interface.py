@@ -57,6 +57,11 @@ class Interface:
     def tick(self):
         return self.constants['TICK']
 
+    def allowance(self):
+        """The line that allows functions of the source to call themselves, where they may; with it the files that need the header
+        begin."""
+        return '' if self.constants['CALLS'] else '#define %s_MAY_RECURSE\n' % self.prefix
+
     def faults(self):
         """The faults by their names in small letters."""
         return {name[len('FAULT_'):].lower(): value for name, value in self.constants.items() if name.startswith('FAULT_')}

@@ -117,11 +117,12 @@ TYPES = {'bool': 'FLAG', **{'%sint%d_t' % (sign, bits): '%s%d' % ('U' if sign el
                             for sign in ('', 'u') for bits in (8, 16, 32, 64)}}
 
 
-def model_text(table, guid):
+def model_text(table, interface, guid):
     """The file model.h."""
     p = table['prefix']
     variables, events, outputs = variables_of(table), taken(table), emitted(table)
-    lines = ['/* The chart %s, for fmu.c. Written by flowfmu. Do not edit. */' % table['chart'], '#include "%s.h"' % table['chart'],
+    lines = ['/* The chart %s, for fmu.c. Written by flowfmu. Do not edit. */' % table['chart'],
+             interface.allowance() + '#include "%s.h"' % table['chart'],
              '#define GUID "%s"' % guid, '#define MODEL_PREFIX %s_' % p, '#define CHART %s_chart' % p,
              '#define INIT %s_init' % p, '#define START %s_start' % p, '#define REACT %s_react' % p,
              'enum { DATA = %d, EVENTS = %d, OUTPUTS = %d, VALUES = %d };' % (

@@ -29,5 +29,5 @@ pub use expressions::write_test;
 pub use fault_tests::Tests;
 pub use file_shape::FileShape;
 pub use lines::{BAD, NO_EVENT, number, put, tell_fault, write_fault};
-pub use outside_tests::{is_begun, is_unknown, leading, leading_events};
+pub use outside_tests::{all_inputs, is_begun, is_unknown, leading, leading_events};
 pub use quotients::helper;

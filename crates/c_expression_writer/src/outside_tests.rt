@@ -39,17 +39,24 @@ fn leading_inputs(events: &[EventDecl]) -> usize
         .count()
 }
 
+/// Whether all events are inputs.
+pub fn all_inputs(events: &[EventDecl]) -> bool
+    ensures { result ≡ spec.all_inputs events.now }
+{
+    leading_inputs(events) == events.len()
+}
+
 /// How many of the first numbers are those of events that a run takes: the leading inputs, and that
 /// of a tick after them where all events are inputs.
 pub fn leading_events(events: &[EventDecl]) -> u32
     requires { length events.now ≤ EVENT_LIMIT }
     ensures { result ≡ spec.leading_events events.now }
 {
-    let leading = leading_inputs(events);
-    if leading == events.len() {
-        leading as u32 + 1
+    let leading = leading_inputs(events) as u32;
+    if all_inputs(events) {
+        leading + 1
     } else {
-        leading as u32
+        leading
     }
 }
 

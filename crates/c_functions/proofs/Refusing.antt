@@ -18,12 +18,13 @@ use Rattle.c_subset.specs.declared.trees.Comparison.TheVariants.{IsEqual, IsUneq
 use Rattle.c_subset.specs.Meaning.{bits, CValue, one_if, Store, Locals, meaning}
 use Rattle.c_subset.specs.Running.{Outcome, Falls, Returns, Calls, and_on, outcome}
 use Rattle.c_functions.specs.Claims.{Has}
-use Rattle.c_functions.specs.Events.{is_input, leading_inputs, leading_events, inputs_from, later_inputs, running_number}
+use Rattle.c_functions.specs.Events.{is_input, leading_inputs, all_inputs, leading_events, inputs_from, later_inputs}
+use Rattle.c_functions.specs.Events.{running_number}
 use Rattle.c_functions.specs.Plans.{Shape, word, number, event_local, event_number, fault_field, fault_datum_field}
-use Rattle.c_functions.specs.Plans.{ready_field, refused_number, leading, tell_fault}
+use Rattle.c_functions.specs.Plans.{ready_field, refused_number, leading}
 use Rattle.c_functions.specs.Files.{HasWord, with_fault}
-use Rattle.c_functions.specs.Starts.{answer_c, is_set_c, is_begun_c, is_other_c, and_none_c, is_unknown_c, refusals_c}
-use Rattle.c_functions.specs.Starts.{refuse_c}
+use Rattle.c_functions.specs.Starts.{answer_c, is_set_c, is_begun_c, is_other_c, and_none_c, is_unknown_c}
+use Rattle.c_functions.specs.Starts.{not_running_c, no_event_c, refusals_c, late_refusals_c, refuse_c}
 use Rattle.c_functions.proofs.Tests.{equal-numbers, both-has}
 use Rattle.c_functions.proofs.Deciding.{either-decides}
 use Rattle.c_functions.proofs.Words.{at_least-is, number-means, local-means, field-means, compare-has, if-goes}
@@ -163,6 +164,22 @@ events-lead ds = by (nat_eq (leading_inputs ds) (length ds)) (leading-few ds)
     by true le = (omega arith, omega (arith, le))
     by false le = (omega arith, omega (arith, le))
 
+-- an event that is declared has a number below how many there are
+declared-within : (ds : List EventDecl) (e : ℕ) (d : EventDecl) → slice_get ds e ≡ Some d → e < length ds
+declared-within [] e d there = absurd cc
+declared-within (x ∷ ds) zero d there = omega arith
+declared-within (x ∷ ds) (suc e) d there = let lt = declared-within ds e d there in omega (arith, lt)
+
+-- not all events are inputs where one that is no later than a tick isn't among those that lead
+leaves-some : (ds : List EventDecl) (e : ℕ) → e ≤ length ds → leading_events ds ≤ e → all_inputs ds ≡ false
+leaves-some ds e within le = by (all_inputs ds) refl le
+  where
+    by : (b : Bool) → nat_eq (leading_inputs ds) (length ds) ≡ b
+        → cond b (leading_inputs ds + 1) (leading_inputs ds) ≤ e → nat_eq (leading_inputs ds) (length ds) ≡ false
+    by true all le =
+        let same : leading_inputs ds ≡ length ds = grind (arith, nat_tests) in absurd (omega (arith, le, same, within))
+    by false all le = all
+
 -- `ready` is the number of leading events where there are some, and is small
 running-suc : (n : ℕ) → running_number (suc n) ≡ suc n
 running-suc n =
@@ -287,39 +304,80 @@ module _ (K : Shape) (int : Width) (most : bits int ≤ 32) (few : length K.name
   refused t = Returns t (record { type = Truth; value = pos 0 })
 
   -- where no run goes on
-  refusals-unready : (rest : Block) → HasWord s.fields (ready_field K) 0
-      → outcome int calls k (refusals_c K rest) s l ≡ Returns s (record { type = Truth; value = pos 0 })
-  refusals-unready rest h =
-      if-taken int most calls k _ s l _ (answer_c false) s _ (unset-has int most s l (ready_field K) 0 h)
+  not_running-refused : (x : Block) → HasWord s.fields (ready_field K) 0
+      → outcome int calls k (not_running_c K x) s l ≡ Returns s (record { type = Truth; value = pos 0 })
+  not_running-refused x h =
+      if-taken int most calls k x s l _ (answer_c false) s _ (unset-has int most s l (ready_field K) 0 h)
       (answer-returns int calls k false s l)
 
-  -- where one does, the test decides
+  -- where one does
+  running-passes : (x : Block) (r : ℕ) → HasWord s.fields (ready_field K) r → nat_eq r 0 ≡ false
+      → outcome int calls k (not_running_c K x) s l ≡ outcome int calls k x s l
+  running-passes x r hr some =
+      if-passed int most calls k x s l _ (answer_c false)
+      (subst (λ (b : Bool). Has int s l (Compare IsEqual (Field (ready_field K)) (number 0)) (one_if b)) some
+      (unset-has int most s l (ready_field K) r hr))
+
+  -- a run is ended
+  no_event-tells : (a d r : ℕ) → HasWord s.fields (fault_field K) a → HasWord s.fields (fault_datum_field K) d
+      → HasWord s.fields (ready_field K) r
+      → outcome int calls k (no_event_c K) s l
+      ≡ Returns (with_fault K s refused_number 0) (record { type = Truth; value = pos 0 })
+  no_event-tells a d r ha hd hr =
+      tell-goes K int most calls k (answer_c false) s l a d r refused_number 0 ha hd hr (omega arith)
+      ∙ answer-returns int calls k false (with_fault K s refused_number 0) l
+
+  -- the test decides
   refusals-unknown : (rest : Block) (a d r : ℕ) → HasWord s.fields (fault_field K) a
       → HasWord s.fields (fault_datum_field K) d → HasWord s.fields (ready_field K) r → nat_eq r 0 ≡ false
       → (not (nat_eq e (length K.names.events)) && is_none_of e (later_inputs K.names.events)) ≡ true
       → outcome int calls k (refusals_c K rest) s l
       ≡ Returns (with_fault K s refused_number 0) (record { type = Truth; value = pos 0 })
   refusals-unknown rest a d r ha hd hr some is =
-      if-passed int most calls k _ s l _ (answer_c false)
-      (subst (λ (b : Bool). Has int s l (Compare IsEqual (Field (ready_field K)) (number 0)) (one_if b)) some
-      (unset-has int most s l (ready_field K) r hr))
-      ∙ if-taken int most calls k rest s l _ (tell_fault K refused_number 0 (answer_c false))
-      (with_fault K s refused_number 0) _
+      running-passes (If (is_unknown_c K) (no_event_c K) End rest) r hr some
+      ∙ if-taken int most calls k rest s l _ (no_event_c K) (with_fault K s refused_number 0) _
       (subst (λ (b : Bool). Has int s l (is_unknown_c K) (one_if b)) is
       (unknown-has int most s l e small here K few))
-      (tell-goes K int most calls k (answer_c false) s l a d r refused_number 0 ha hd hr (omega arith)
-      ∙ answer-returns int calls k false (with_fault K s refused_number 0) l)
+      (no_event-tells a d r ha hd hr)
 
   refusals-known : (rest : Block) (r : ℕ) → HasWord s.fields (ready_field K) r → nat_eq r 0 ≡ false
       → (not (nat_eq e (length K.names.events)) && is_none_of e (later_inputs K.names.events)) ≡ false
       → outcome int calls k (refusals_c K rest) s l ≡ outcome int calls k rest s l
   refusals-known rest r hr some is =
-      if-passed int most calls k _ s l _ (answer_c false)
-      (subst (λ (b : Bool). Has int s l (Compare IsEqual (Field (ready_field K)) (number 0)) (one_if b)) some
-      (unset-has int most s l (ready_field K) r hr))
-      ∙ if-passed int most calls k rest s l _ (tell_fault K refused_number 0 (answer_c false))
+      running-passes (If (is_unknown_c K) (no_event_c K) End rest) r hr some
+      ∙ if-passed int most calls k rest s l _ (no_event_c K)
       (subst (λ (b : Bool). Has int s l (is_unknown_c K) (one_if b)) is
       (unknown-has int most s l e small here K few))
+
+  -- of a number that isn't below `ready`
+  late-unready : HasWord s.fields (ready_field K) 0
+      → outcome int calls k (late_refusals_c K) s l ≡ Returns s (record { type = Truth; value = pos 0 })
+  late-unready h = by (all_inputs K.names.events)
+    where
+      by : (b : Bool) → outcome int calls k (cond b (not_running_c K (no_event_c K)) (refusals_c K End)) s l
+          ≡ Returns s (record { type = Truth; value = pos 0 })
+      by true = not_running-refused (no_event_c K) h
+      by false = not_running-refused (If (is_unknown_c K) (no_event_c K) End End) h
+
+  late-unknown : (a d r : ℕ) → HasWord s.fields (fault_field K) a → HasWord s.fields (fault_datum_field K) d
+      → HasWord s.fields (ready_field K) r → nat_eq r 0 ≡ false
+      → (not (nat_eq e (length K.names.events)) && is_none_of e (later_inputs K.names.events)) ≡ true
+      → outcome int calls k (late_refusals_c K) s l
+      ≡ Returns (with_fault K s refused_number 0) (record { type = Truth; value = pos 0 })
+  late-unknown a d r ha hd hr some is = by (all_inputs K.names.events)
+    where
+      by : (b : Bool) → outcome int calls k (cond b (not_running_c K (no_event_c K)) (refusals_c K End)) s l
+          ≡ Returns (with_fault K s refused_number 0) (record { type = Truth; value = pos 0 })
+      by true = running-passes (no_event_c K) r hr some ∙ no_event-tells a d r ha hd hr
+      by false = refusals-unknown End a d r ha hd hr some is
+
+  late-known : (r : ℕ) → HasWord s.fields (ready_field K) r → nat_eq r 0 ≡ false → all_inputs K.names.events ≡ false
+      → (not (nat_eq e (length K.names.events)) && is_none_of e (later_inputs K.names.events)) ≡ false
+      → outcome int calls k (late_refusals_c K) s l ≡ Falls s l
+  unfolding outcome
+  late-known r hr some not_all is =
+      ap (λ (b : Bool). outcome int calls k (cond b (not_running_c K (no_event_c K)) (refusals_c K End)) s l) not_all
+      ∙ refusals-known End r hr some is
 
   -- an event that is below `ready`, or not
   guard-has : (r : ℕ) (b : Bool) → HasWord s.fields (ready_field K) r → nat_le r e ≡ b
@@ -335,12 +393,12 @@ module _ (K : Shape) (int : Width) (most : bits int ≤ 32) (few : length K.name
     where
       by : (b : Bool)
           → outcome int calls k (cond b (refusals_c K rest)
-          (If (Compare IsAtLeast event_local (Field (ready_field K))) (refusals_c K End) End rest)) s l
+          (If (Compare IsAtLeast event_local (Field (ready_field K))) (late_refusals_c K) End rest)) s l
           ≡ Returns s (record { type = Truth; value = pos 0 })
-      by true = refusals-unready rest h
+      by true = not_running-refused (If (is_unknown_c K) (no_event_c K) End rest) h
       by false =
-          if-taken int most calls k rest s l _ (refusals_c K End) s _ (guard-has 0 true h (grind (arith, nat_tests)))
-          (refusals-unready End h)
+          if-taken int most calls k rest s l _ (late_refusals_c K) s _ (guard-has 0 true h (grind (arith, nat_tests)))
+          (late-unready h)
 
   -- a number that is no event, in a run
   pub unknown-refused : (rest : Block) (a d : ℕ) → HasWord s.fields (fault_field K) a
@@ -366,17 +424,17 @@ module _ (K : Shape) (int : Width) (most : bits int ≤ 32) (few : length K.name
 
       by : (n : ℕ) → leading_events K.names.events ≡ n → HasWord s.fields (ready_field K) (running_number n)
           → outcome int calls k (cond (nat_eq n 0) (refusals_c K rest)
-          (If (Compare IsAtLeast event_local (Field (ready_field K))) (refusals_c K End) End rest)) s l
+          (If (Compare IsAtLeast event_local (Field (ready_field K))) (late_refusals_c K) End rest)) s l
           ≡ Returns (with_fault K s refused_number 0) (record { type = Truth; value = pos 0 })
       by zero is hr = refusals-unknown rest a d 1 ha hd hr refl passes
       by (suc n) is hr =
           let hr' = subst (λ (r : ℕ). HasWord s.fields (ready_field K) r) (running-suc n) hr in
           subst (λ (b : Bool). outcome int calls k (cond b (refusals_c K rest)
-          (If (Compare IsAtLeast event_local (Field (ready_field K))) (refusals_c K End) End rest)) s l
+          (If (Compare IsAtLeast event_local (Field (ready_field K))) (late_refusals_c K) End rest)) s l
           ≡ Returns (with_fault K s refused_number 0) (record { type = Truth; value = pos 0 })) (sym some)
-          (if-taken int most calls k rest s l _ (refusals_c K End) (with_fault K s refused_number 0) _
+          (if-taken int most calls k rest s l _ (late_refusals_c K) (with_fault K s refused_number 0) _
           (guard-has (suc n) true hr' (above (nat_le (suc n) e) refl))
-          (refusals-unknown End a d (suc n) ha hd hr' some passes))
+          (late-unknown a d (suc n) ha hd hr' some passes))
         where
           some : nat_eq (suc n) 0 ≡ false
           some = grind (arith, nat_tests)
@@ -402,6 +460,13 @@ module _ (K : Shape) (int : Width) (most : bits int ≤ 32) (few : length K.name
           × (leading_events K.names.events ≤ length K.names.events + 1)
       lead = events-lead K.names.events
 
+      within : (event : Event) → event_number K.names event ≡ e → CanReactTo K.names event
+          → e ≤ length K.names.events
+      within events.Start is can = absurd can
+      within events.Tick is can = omega (arith, is)
+      within (events.Named n) is can =
+          let lt : n < length K.names.events = declared-within K.names.events n can.0 can.1 in omega (arith, is, lt)
+
       fails : (event : Event) → event_number K.names event ≡ e → CanReactTo K.names event
           → leading_inputs K.names.events ≤ e
           → (not (nat_eq e (length K.names.events)) && is_none_of e (later_inputs K.names.events)) ≡ false
@@ -421,12 +486,12 @@ module _ (K : Shape) (int : Width) (most : bits int ≤ 32) (few : length K.name
 
       by : (n : ℕ) → leading_events K.names.events ≡ n → HasWord s.fields (ready_field K) (running_number n)
           → outcome int calls k (cond (nat_eq n 0) (refusals_c K rest)
-          (If (Compare IsAtLeast event_local (Field (ready_field K))) (refusals_c K End) End rest)) s l
+          (If (Compare IsAtLeast event_local (Field (ready_field K))) (late_refusals_c K) End rest)) s l
           ≡ outcome int calls k rest s l
       by zero is hr = refusals-known rest 1 hr refl (fails event number_is can (omega (arith, is, lead.0)))
       by (suc n) is hr =
           subst (λ (b : Bool). outcome int calls k (cond b (refusals_c K rest)
-          (If (Compare IsAtLeast event_local (Field (ready_field K))) (refusals_c K End) End rest)) s l
+          (If (Compare IsAtLeast event_local (Field (ready_field K))) (late_refusals_c K) End rest)) s l
           ≡ outcome int calls k rest s l) (sym some)
           (at (subst (λ (r : ℕ). HasWord s.fields (ready_field K) r) (running-suc n) hr) (nat_le (suc n) e) refl)
         where
@@ -434,10 +499,11 @@ module _ (K : Shape) (int : Width) (most : bits int ≤ 32) (few : length K.name
           some = grind (arith, nat_tests)
 
           at : HasWord s.fields (ready_field K) (suc n) → (b : Bool) → nat_le (suc n) e ≡ b
-              → outcome int calls k (If (Compare IsAtLeast event_local (Field (ready_field K))) (refusals_c K End) End
+              → outcome int calls k (If (Compare IsAtLeast event_local (Field (ready_field K))) (late_refusals_c K) End
               rest) s l ≡ outcome int calls k rest s l
           at hr true h =
               let le : suc n ≤ e = grind (arith, nat_tests) in
-              if-through int most calls k rest s l _ (refusals_c K End) (guard-has (suc n) true hr h)
-              (refusals-known End (suc n) hr some (fails event number_is can (omega (arith, is, le, lead.0))))
-          at hr false h = if-passed int most calls k rest s l _ (refusals_c K End) (guard-has (suc n) false hr h)
+              if-through int most calls k rest s l _ (late_refusals_c K) (guard-has (suc n) true hr h)
+              (late-known (suc n) hr some (leaves-some K.names.events e (within event number_is can) (omega (arith, is, le)))
+              (fails event number_is can (omega (arith, is, le, lead.0))))
+          at hr false h = if-passed int most calls k rest s l _ (late_refusals_c K) (guard-has (suc n) false hr h)

@@ -15,10 +15,14 @@ is_input Output = false
 abbrev pub leading_inputs : List EventDecl → ℕ
 leading_inputs ds = prefix_len (λ (d : EventDecl). is_input d.kind) ds
 
+-- all events are inputs
+abbrev pub all_inputs : List EventDecl → Bool
+all_inputs ds = leading_inputs ds == length ds
+
 -- How many of the first numbers are those of events that a run takes: the leading inputs, and that of a tick after them
 -- where all events are inputs.
 abbrev pub leading_events : List EventDecl → ℕ
-leading_events ds = if leading_inputs ds == length ds then leading_inputs ds + 1 else leading_inputs ds
+leading_events ds = if all_inputs ds then leading_inputs ds + 1 else leading_inputs ds
 
 -- the numbers of the inputs among these events, the first of which has number e; those from a number on
 abbrev pub inputs_from : ℕ → ℕ → List EventDecl → List ℕ

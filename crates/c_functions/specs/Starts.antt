@@ -26,7 +26,7 @@ use Rattle.c_subset.specs.Running.{Returns, call, object_of, with_field}
 use Rattle.c_functions.specs.Claims.{field_type}
 use Rattle.c_functions.specs.Statements as plan
 use Rattle.c_functions.specs.Layout.{or_count}
-use Rattle.c_functions.specs.Events.{leading_events, later_inputs}
+use Rattle.c_functions.specs.Events.{all_inputs, leading_events, later_inputs}
 use Rattle.c_functions.specs.Plans.{Shape, Tests, word, number, bad, event_local, result_local, event_number, declared_at}
 use Rattle.c_functions.specs.Plans.{used_field, outs_field, noted_field, fault_field, ready_field, refused_number, leading}
 use Rattle.c_functions.specs.Plans.{tell_fault, init_function, start_function, react_function, out_row, note_row}
@@ -109,17 +109,27 @@ and_none_c test (e ∷ es) = and_none_c (Both test (is_other_c e)) es
 abbrev pub is_unknown_c : Shape → CExpr
 is_unknown_c K = and_none_c (is_other_c (event_number K.names events.Tick)) (later_inputs K.names.events)
 
--- no event is taken where no run goes on, and a number that is no event ends the run
+-- no event is taken where no run goes on
+abbrev pub not_running_c : Shape → Block → Block
+not_running_c K rest = c.If (Compare IsEqual (Field (ready_field K)) (number 0)) (answer_c false) c.End rest
+
+-- a number that is no event ends the run
+abbrev pub no_event_c : Shape → Block
+no_event_c K = tell_fault K refused_number 0 (answer_c false)
+
+-- the refusals, where the number is tested
 abbrev pub refusals_c : Shape → Block → Block
-refusals_c K rest =
-    c.If (Compare IsEqual (Field (ready_field K)) (number 0)) (answer_c false) c.End
-    (c.If (is_unknown_c K) (tell_fault K refused_number 0 (answer_c false)) c.End rest)
+refusals_c K rest = not_running_c K (c.If (is_unknown_c K) (no_event_c K) c.End rest)
+
+-- those of a number that isn't below `ready`: where all events are inputs it is none in a run, and isn't tested
+abbrev pub late_refusals_c : Shape → Block
+late_refusals_c K = if all_inputs K.names.events then not_running_c K (no_event_c K) else refusals_c K c.End
 
 -- the refusals, which an event below `ready` passes by, where events lead
 abbrev pub refuse_c : Shape → Block → Block
 refuse_c K rest =
     if leading_events K.names.events == 0 then refusals_c K rest
-    else c.If (Compare IsAtLeast event_local (Field (ready_field K))) (refusals_c K c.End) c.End rest
+    else c.If (Compare IsAtLeast event_local (Field (ready_field K))) (late_refusals_c K) c.End rest
 
 -- a reaction refuses what is no event; it has no step used, nothing emitted and no notes, and calls its procedure
 abbrev pub react_c : Shape → ℕ → Function

@@ -16,8 +16,8 @@ use crate::helpers::one_word;
 use crate::pieces::{local, put_return, put_store};
 use actions::Var;
 use c_expression_writer::{
-    BAD, FileShape, NO_EVENT, is_begun, is_unknown, leading, leading_events, number, put,
-    tell_fault,
+    BAD, FileShape, NO_EVENT, all_inputs, is_begun, is_unknown, leading, leading_events, number,
+    put, tell_fault,
 };
 use c_functions::{WORD, field_type};
 use c_subset::{CExpr, CType, Comparison, Function, Line, Width};
@@ -131,18 +131,40 @@ fn put_refused(lines: &mut List<Line>, test: CExpr) -> Result<(), Memory>
     put(lines, Line::Close)
 }
 
-/// Appends that a number that is no event ends the run.
+/// Appends that no event is taken where no run goes on.
+fn put_not_running(
+    alloc: Global,
+    shape: &FileShape<'_>,
+    lines: &mut List<Line>,
+) -> Result<(), Memory>
+    ensures { OnOk result (Appends (items_of lines.old) (items_of lines.new)
+        (starts.not_running_c (shape_seen shape.now))) }
+{
+    let ready = CExpr::Field(shape.ready_field());
+    let over = CExpr::compare(alloc, Comparison::IsEqual, ready, number(0))?;
+    put_refused(lines, over)
+}
+
+/// Appends that the run is ended by a number that is no event.
+fn put_no_event(shape: &FileShape<'_>, lines: &mut List<Line>) -> Result<(), Memory>
+    ensures { OnOk result (lines_in (items_of lines.new) ≡ lines_in (items_of lines.old)
+        ++ lines_of (starts.no_event_c (shape_seen shape.now))) }
+{
+    tell_fault(shape, lines, NO_EVENT, 0)?;
+    put_answer(lines, false)
+}
+
+/// Appends that a number that is no event ends the run, where it is tested.
 #[tactic(auto, unfolding(c_subset::specs::Lines::lines_of))]
-fn put_no_event(alloc: Global, shape: &FileShape<'_>, lines: &mut List<Line>) -> Result<(), Memory>
+fn put_unknown(alloc: Global, shape: &FileShape<'_>, lines: &mut List<Line>) -> Result<(), Memory>
     requires { length (shape_seen shape.now).names.events ≤ EVENT_LIMIT }
     ensures { OnOk result (Appends (items_of lines.old) (items_of lines.new)
-        (c.If (starts.is_unknown_c (shape_seen shape.now)) (spec.tell_fault (shape_seen shape.now)
-        spec.refused_number 0 (starts.answer_c false)) c.End)) }
+        (c.If (starts.is_unknown_c (shape_seen shape.now))
+        (starts.no_event_c (shape_seen shape.now)) c.End)) }
 {
     let unknown = is_unknown(alloc, shape)?;
     put(lines, Line::If(unknown))?;
-    tell_fault(shape, lines, NO_EVENT, 0)?;
-    put_answer(lines, false)?;
+    put_no_event(shape, lines)?;
     put(lines, Line::Close)
 }
 
@@ -152,10 +174,26 @@ fn put_refusals(alloc: Global, shape: &FileShape<'_>, lines: &mut List<Line>) ->
     ensures { OnOk result (Appends (items_of lines.old) (items_of lines.new)
         (starts.refusals_c (shape_seen shape.now))) }
 {
-    let ready = CExpr::Field(shape.ready_field());
-    let over = CExpr::compare(alloc, Comparison::IsEqual, ready, number(0))?;
-    put_refused(lines, over)?;
-    put_no_event(alloc, shape, lines)
+    put_not_running(alloc, shape, lines)?;
+    put_unknown(alloc, shape, lines)
+}
+
+/// Appends what it refuses of one that isn't below `ready`: where all events are inputs, all.
+fn put_late_refusals(
+    alloc: Global,
+    shape: &FileShape<'_>,
+    lines: &mut List<Line>,
+) -> Result<(), Memory>
+    requires { length (shape_seen shape.now).names.events ≤ EVENT_LIMIT }
+    ensures { OnOk result (lines_in (items_of lines.new) ≡ lines_in (items_of lines.old)
+        ++ lines_of (starts.late_refusals_c (shape_seen shape.now))) }
+{
+    if all_inputs(shape.names.events.items()) {
+        put_not_running(alloc, shape, lines)?;
+        put_no_event(shape, lines)
+    } else {
+        put_refusals(alloc, shape, lines)
+    }
 }
 
 /// Appends what a reaction refuses: where events lead, one below `ready` passes by the tests.
@@ -171,7 +209,7 @@ fn put_refuse(alloc: Global, shape: &FileShape<'_>, lines: &mut List<Line>) -> R
     let ready = CExpr::Field(shape.ready_field());
     let late = CExpr::compare(alloc, Comparison::IsAtLeast, local(0), ready)?;
     put(lines, Line::If(late))?;
-    put_refusals(alloc, shape, lines)?;
+    put_late_refusals(alloc, shape, lines)?;
     put(lines, Line::Close)
 }
 

@@ -1,5 +1,4 @@
 """What flowtests finds for the charts of suite_table.txt: the counts, and each goal that isn't covered with why."""
-from checking import text_of
 from measure.suite import met_goals
 from picture.chart_model import ChartModel
 from suites.report import count_text, counts_of, rows_of

@@ -23,7 +23,7 @@ from collections import namedtuple
 from bounds import bounds_of
 from chart_check import Active, Assign, Between, Junction, Read, Sign, check_chart
 from chart_rules import DEFAULT_DEPTH, DEFAULT_STEPS
-from chart_syntax import BLOCKS, block_text, expression_text, statement_text
+from chart_syntax import BLOCKS, expression_text, statement_text
 from lint.dead import constant
 
 from measure.ranges import may_be_zero, sides_out_of_range

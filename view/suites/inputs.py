@@ -2,7 +2,7 @@
 from fractions import Fraction
 from math import floor
 
-from chart_check import Assign, Between, Datum, Read, Sign, ends_of, is_value_of
+from chart_check import Assign, Between, Datum, Read, ends_of, is_value_of
 from chart_syntax import COMPARISON, LEVELS
 from lint.numbers import value_of
 from lint.uses import parts_of

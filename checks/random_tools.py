@@ -7,9 +7,10 @@ A case is a chart of random_charts.py with an event file. flowwhy explains whate
 must be that of PROGRAM's line. Of an accepted chart flowlint gives its warnings, and then the chart runs over random event files
 by the rules: no transition may be enabled that flowlint calls never taken, no state be entered and no junction with transitions
 be visited that it calls never reached; a search that comes to a junction which it calls endless must end with a fault; no condition
-may be otherwise than it says that it always is; no during action may run that it calls never run, and no state beside one be entered
-of which it says that nothing leaves it. flowtrace must give back each trace. It writes counts, and ends with status 1 where
-anything is wrong."""
+may be otherwise than it says that it always is; no during action may run that it calls never run, and no state beside one be
+entered of which it says that nothing leaves it. flowtrace must give back each trace. With `--tests SECONDS` flowtests searches so
+long for each accepted chart, and no run may cover what it says can't come. It writes counts, and ends with status 1 where anything
+is wrong."""
 import os
 import random
 import sys
@@ -20,6 +21,8 @@ sys.path.insert(0, os.path.join(os.path.dirname(os.path.abspath(__file__)), '..'
 import chart_rules as rules                                                       # noqa: E402
 import programs                                                                   # noqa: E402
 from chart_syntax import WITH_HISTORY                                             # noqa: E402
+from checking.layout_rows import wrong_random                                      # noqa: E402
+from checking.server_rows import wrong_answers                                    # noqa: E402
 from checking.trace_rows import round_trip                                        # noqa: E402
 from lint.conditions import Conditions                                            # noqa: E402
 from lint.cycles import endless                                                   # noqa: E402
@@ -27,6 +30,10 @@ from lint.dead import never_run, never_taken                                    
 from lint.reach import Reached                                                    # noqa: E402
 from lint.warnings import warnings                                                # noqa: E402
 from lint.ways import without_way_out                                             # noqa: E402
+from measure.covered import Covered                                               # noqa: E402
+from measure.suite import met_goals                                               # noqa: E402
+from picture.chart_model import ChartModel                                        # noqa: E402
+from suites.search import Search                                                  # noqa: E402
 from random_charts import event_file, made_case                                   # noqa: E402
 from why.answer import answer                                                     # noqa: E402
 
@@ -105,6 +112,22 @@ def wrong_runs(text, chart, seed, depth, steps, runs, counts):
             yield wrong
 
 
+def wrong_tests(text, seed, depth, steps, seconds, runs, counts):
+    """What random runs cover though flowtests says that it can't come."""
+    search = Search(ChartModel(text), seconds, 1, 100, depth, steps)
+    choices, noted = random.Random('%s tests' % seed), set()
+    for _ in range(runs):
+        covered = Covered(search.parts, depth, steps)
+        rules.run_events(covered, event_file(choices, search.parts.chart).encode('latin-1'))
+        noted |= covered.noted
+    never = [goal for goal in search.parts.goals if goal.key in search.reasons.found]
+    counts['goals'] += len(search.parts.goals)
+    counts["goals that can't come"] += len(never)
+    counts['charts of which all worlds were tried'] += search.worlds.is_whole
+    for goal in met_goals(never, noted):
+        yield "%s: %s: %s, and it comes" % (goal.where, goal.what, search.reasons.found[goal.key])
+
+
 def wrong_explanation(program, folder, text, data, depth, steps, counts):
     """What is wrong with what flowwhy says."""
     names = [os.path.join(folder, name) for name in ('chart', 'events')]
@@ -125,12 +148,26 @@ def wrong_explanation(program, folder, text, data, depth, steps, counts):
     return None
 
 
+def wrong_at_the_desk(text, name, counts):
+    """What is wrong with the answers of flowls at random places of a text, which may be cut, and with the layout by flowfmt of
+    another random chart with random comments."""
+    choices = random.Random('%s server' % name)
+    if choices.random() < 0.5:
+        first = choices.randrange(len(text) + 1)
+        text = text[:first] + text[first + choices.choice([1, 5, len(text)]):]
+    yield from wrong_answers(text, choices)
+    wrong, readable = wrong_random(name)
+    counts['layouts'] += readable
+    yield wrong
+
+
 def main():
     parser = programs.parser(__doc__)
     parser.add_argument('--cases', type=programs.at_least_one, default=1000)
     parser.add_argument('--first', type=int, default=0)
     parser.add_argument('--seed', default='1')
     parser.add_argument('--runs', type=int, default=20)
+    parser.add_argument('--tests', type=float, default=0, metavar='SECONDS')
     parser.add_argument('--against', required=True, metavar='PROGRAM')
     given = parser.parse_args()
     counts, wrong = Counter(), 0
@@ -138,9 +175,13 @@ def main():
         for place in range(given.first, given.first + given.cases):
             text, chart, data, depth, steps = made_case(given.seed, place, WITH_HISTORY)
             found = [wrong_explanation(os.path.abspath(given.against), folder, text, data, depth, steps, counts)]
+            found += wrong_at_the_desk(text, '%s %d' % (given.seed, place), counts)
             if chart:
                 counts['accepted'] += 1
-                found += wrong_runs(text, chart, '%s %d' % (given.seed, place), depth, steps, given.runs, counts)
+                name = '%s %d' % (given.seed, place)
+                found += wrong_runs(text, chart, name, depth, steps, given.runs, counts)
+                if given.tests:
+                    found += wrong_tests(text, name, depth, steps, given.tests, given.runs, counts)
             for each in filter(None, dict.fromkeys(found)):
                 print('case %d: %s' % (place, each), flush=True)
                 wrong += 1

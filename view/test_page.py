@@ -32,7 +32,7 @@ SCRIPT = r"""
       const active = [...document.querySelectorAll("svg .state.active")].map(each => each.dataset.path);
       check("states of line " + number, same(active, lines[number].states));
       const values = [...document.querySelectorAll(".row .value")].map(each => each.title);
-      for (const value of lines[number].values) check("value " + value + " of line " + number, values.includes(value));
+      for (const value of lines[number].values.filter((_, at) => !model.data[at].constant)) check("value " + value + " of line " + number, values.includes(value));
       if (model.fired) {
         const fired = [...document.querySelectorAll("svg .fired")].map(each => each.id);
         check("fired of line " + number, same(fired, new Set(model.fired[number])));

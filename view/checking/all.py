@@ -1,11 +1,12 @@
 """All parts of the check."""
 import sys
 
+from checking import desk
 from checking import Wrong, blocks_of, differences, text_of, written_again
 from checking import lint_rows, suite_rows, trace_rows, why_rows
 from checking.commands import wrong_calls
 from checking.formats import wrong_formats
-from checking.pages import wrong_cases, wrong_recipes, wrong_warnings
+from checking.pages import wrong_calls_of_tests, wrong_cases, wrong_recipes, wrong_warnings
 
 ROWS_OF_WHY = 100           # flowwhy is checked over at least so many texts
 
@@ -34,6 +35,7 @@ def parts(program):
     none = [] if examples else ['no example']
     yield 'warnings on the examples', '%d charts' % len(examples), lint_rows.wrong_examples() + none
     yield 'round trips of the traces', '%d traces' % len(examples), trace_rows.wrong_round_trips(examples) + none
+    yield from desk.parts(program, examples)
     lines, seen = wrong_cases()
     yield 'cases of docs/SEMANTICS.md', '%d cases' % seen, lines
     lines, seen = wrong_recipes(program)
@@ -42,6 +44,8 @@ def parts(program):
     yield 'examples of docs/WARNINGS.md', '%d kinds' % seen, lines
     lines, seen = wrong_calls(program)
     yield 'calls of the tools', '%d calls' % seen, lines
+    lines, seen = wrong_calls_of_tests()
+    yield 'calls of docs/TESTS.md', '%d calls' % seen, lines
     lines, seen = wrong_formats(program)
     yield 'reports in other formats', '%d reports' % seen, lines
 
@@ -63,5 +67,5 @@ def checked(program):
 
 def rewritten(program, name):
     """Writes a table with the answers that are given now."""
-    sys.stdout.write(written_again(name, answers(program)[name]))
+    sys.stdout.write(written_again(name, {**answers(program), **desk.ANSWERS}[name]))
     return 0

@@ -7,8 +7,9 @@ import tempfile
 from common import CHECKOUT, VIEW
 from common.version import VERSION
 
-TOOLS = ('flowview', 'flowwhy', 'flowlint', 'flowtrace', 'draw_examples')
+TOOLS = ('flowview', 'flowwhy', 'flowlint', 'flowtrace', 'flowtests', 'draw_examples')
 LAMP = os.path.join(CHECKOUT, 'examples', 'lamp', 'lamp.')
+LAMP_SUM = 'b68241c557260cf0'                # as `flowc fmt` and `md5sum` have it
 FILES = {
     'wrong.chart': 'chart C { default -> A; state A { entry { x++; } } }\n',
     'dead.chart': 'chart C { default -> A; state A { outer -> A; outer -> A; } }\n',
@@ -26,14 +27,14 @@ CALLS = [
     ('flowwhy nothing.chart', 4, '', 'read fault\nnothing.chart:1:1: error: ReadFault: '),
     ('flowwhy', 2, '', 'usage: flowwhy'),
     ('flowwhy wrong.chart LAMPchart LAMPevents', 1, '0 start [Off]', 'chart 1:44: 3 Expected\nwrong.chart:1:44: error: Expected: '),
-    ('flowwhy fault.chart ticks ticks --format json', 3, '{\n "tool": "flowwhy",\n "messages": [\n  {\n   "file": "fault.chart",\n', 'run 1'),
+    ('flowwhy fault.chart ticks ticks --format json', 3, '{\n "tool": "flowwhy",\n "messages": [\n  {\n', 'run 1: zero\n'),
     ('flowwhy LAMPchart --format xml', 2, '', 'usage: flowwhy'),
     ('flowwhy wrong.chart --program nothing', 127, '', 'flowwhy: --program names nothing, which is no program'),
     ('flowlint dead.chart', 0, 'ok 2 states 0 junctions 3 transitions 3 pairs\ndead.chart:1:47: warning: NeverTaken: ', ''),
     ('flowlint dead.chart --strict', 8, 'ok ', ''),
     ('flowlint dead.chart --strict --allow NeverTaken', 0, 'ok ', ''),
     ('flowlint wrong.chart', 1, '', 'chart 1:44: 3 Expected\nwrong.chart: flowc refuses'),
-    ('flowlint dead.chart LAMPchart', 0, 'ok 2 states 0 junctions 3 transitions 3 pairs\ndead.chart:1:47: warning: NeverTaken: ', ''),
+    ('flowlint dead.chart LAMPchart', 0, 'ok 2 states 0 junctions 3 transitions 3 pairs\ndead.chart:1:47: warning: Never', ''),
     ('flowlint LAMPchart wrong.chart', 1, 'ok 3 states', 'chart 1:44: 3 Expected\nwrong.chart: flowc refuses'),
     ('flowlint LAMPchart dead.chart --strict', 8, 'ok 3 states', ''),
     ('flowlint nothing.chart', 4, '', 'read fault\n'),
@@ -47,16 +48,17 @@ CALLS = [
     ('flowtrace run wrong.chart ticks', 1, '', 'chart 1:44: 3 Expected\n'),
     ('flowtrace test LAMPchart LAMPevents wanted', 0, 'the same', ''),
     ('flowtrace test LAMPchart LAMPevents other', 1, 'line 2, GO:', ''),
-    ('flowtrace test LAMPchart LAMPevents wanted LAMPevents other', 1, 'LAMPchart LAMPevents\nthe same, 4 lines\nLAMPchart', ''),
+    ('flowtrace test LAMPchart LAMPevents wanted LAMPevents other', 1,
+     'LAMPchart, sum %s: LAMPevents\nthe same, 4 lines\n' % LAMP_SUM, ''),
     ('flowtrace test LAMPchart LAMPevents wanted fault.chart ticks', 2, '', 'usage: flowtrace'),
     ('flowtrace run LAMPchart LAMPevents --junit out', 2, '', 'usage: flowtrace'),
     ('flowview LAMPchart LAMPevents --coverage --at-least 100', 0, '2 of 2 states, 3 of 3 transitions\n', ''),
     ('flowview LAMPchart ticks --coverage --at-least 50', 1, '1 of 2 states, 1 of 3', 'flowview: 1 of 3 transitions are covered'),
     ('flowview LAMPchart ticks LAMPevents --coverage --at-least 50', 0, '2 of 2 states, 3 of 3 transitions\n', ''),
-    ('flowview LAMPchart ticks LAMPevents --coverage --format json', 0, '{\n "chart": "Lamp",', ''),
+    ('flowview LAMPchart ticks LAMPevents --coverage --format json', 0, '{\n "chart": "Lamp",\n "sum": "%s",\n' % LAMP_SUM, ''),
     ('flowview LAMPchart ticks LAMPevents', 2, '', 'usage: flowview'),
     ('flowview LAMPchart ticks --at-least 50', 2, '', 'usage: flowview'),
-    ('flowtests LAMPchart --seconds 5', 0, 'traces by ', ''),
+    ('flowtests LAMPchart --seconds 5', 0, 'chart Lamp, sum %s\ntraces by ' % LAMP_SUM, ''),
     ('flowtests wrong.chart', 1, '', 'chart 1:44: 3 Expected\n'),
     ('flowtests LAMPchart --seconds 0', 2, '', 'usage: flowtests'),
     ('flowtests LAMPchart --program nothing', 127, '', 'flowtests: --program names nothing'),
@@ -70,14 +72,14 @@ CALLS = [
 ]
 
 
-def wrong_calls(program):
+def wrong_calls(program, calls=CALLS, files=FILES):
     """The calls that end otherwise, and how many there are."""
     lines = []
     with tempfile.TemporaryDirectory() as folder:
-        for name, text in FILES.items():
+        for name, text in files.items():
             with open(os.path.join(folder, name), 'w', encoding='ascii') as file:
                 file.write(text)
-        for words, status, out, error in CALLS:
+        for words, status, out, error in calls:
             tool, *rest = words.replace('LAMP', LAMP).split(' ')
             done = subprocess.run([sys.executable, os.path.join(VIEW, tool), *rest], cwd=folder, capture_output=True, check=False,
                                   stdin=subprocess.DEVNULL, env={**os.environ, 'FLOWC': program, 'COLUMNS': '80'})
@@ -87,4 +89,4 @@ def wrong_calls(program):
                        for got, wanted in ((got_out, out), (got_error, error)))
             if done.returncode != status or not fits:
                 lines.append('%s: status %d, %r, %r' % (words, done.returncode, got_out[:200], got_error[:200]))
-    return lines, len(CALLS)
+    return lines, len(calls)

@@ -1,13 +1,13 @@
-"""The formats of reports, read by what others wrote. JUnit XML is read by Debian's python3-junitparser. Of SARIF Debian has no schema; but
-the classes of its python3-sarif-python-om are made from the schema of SARIF 2.1.0: each property must be one of its class, and those
-that the schema demands must be there. What else the schema says, as of the form of a URI, isn't asked."""
+"""The formats of reports, read by what others wrote. JUnit XML is read by Debian's python3-junitparser. Of SARIF Debian has no
+schema; but the classes of its python3-sarif-python-om are made from the schema of SARIF 2.1.0: each property must be one of its
+class, and those that the schema demands must be there. What else the schema says, as of the form of a URI, isn't asked."""
 import json
 import os
 import subprocess
 import sys
 import tempfile
 
-from checking.commands import FILES, LAMP
+from checking.commands import FILES, LAMP, LAMP_SUM
 from common import VIEW
 from common.debian import module
 
@@ -72,13 +72,16 @@ def report_faults(folder, program, classes):
 
 def junit_faults(folder, program, reader):
     """What is wrong with the results of three cases, of which one passes, one has another trace and one has none."""
-    called('flowtrace test LAMPchart LAMPevents wanted LAMPevents other wrong.chart ticks wanted --junit results.xml', folder, program)
+    words = 'flowtrace test LAMPchart LAMPevents wanted LAMPevents other wrong.chart ticks wanted --junit results.xml'
+    called(words, folder, program)
     found = reader.JUnitXml.fromfile(os.path.join(folder, 'results.xml'))
     told = ['%s: %d tests, %d failures, %d errors' % (os.path.basename(suite.name), suite.tests, suite.failures, suite.errors)
             for suite in found]
+    told += ['%s: %s' % (each.name, each.value) for suite in found for each in suite.properties()]
     told += ['%s: %s' % (os.path.basename(case.name), ', '.join(type(each).__name__ + ' ' + each.message for each in case.result))
              for suite in found for case in suite]
-    wanted = ['lamp.chart: 2 tests, 1 failures, 0 errors', 'wrong.chart: 1 tests, 0 failures, 1 errors', 'lamp.events: ',
+    wanted = ['lamp.chart: 2 tests, 1 failures, 0 errors', 'wrong.chart: 1 tests, 0 failures, 1 errors', 'sum: ' + LAMP_SUM,
+              'lamp.events: ',
               'lamp.events: Failure line 2, GO:', 'ticks: Error chart 1:44: 3 Expected']
     if told != wanted:
         yield 'JUnit XML is read as %s' % told

@@ -1,6 +1,8 @@
 """The charts and traces of the pages, against the examples that they name, and the examples of the warnings."""
 import os
 import re
+import subprocess
+import sys
 
 from chart_check import check_chart
 from chart_rules import run_rules
@@ -9,8 +11,8 @@ from common.places import line_and_column
 from common.program import read_file, run
 from lint.warnings import IDLE, KINDS, warnings
 
-SEMANTICS, CHART_TEXT, WARNINGS = (os.path.join(CHECKOUT, 'docs', name) for name in (
-    'SEMANTICS.md', 'CHART_TEXT.md', 'WARNINGS.md'))
+SEMANTICS, CHART_TEXT, WARNINGS, TESTS = (os.path.join(CHECKOUT, 'docs', name) for name in (
+    'SEMANTICS.md', 'CHART_TEXT.md', 'WARNINGS.md', 'TESTS.md'))
 NAMED = re.compile(r'\(`(\w+)`\)')
 
 
@@ -73,3 +75,21 @@ def left_where_allowed(text, kind, told):
         lines[number - 1] += '  // flowlint: allow ' + kind
     allowed = '\n'.join(lines)
     return warnings(allowed, check_chart(allowed))
+
+
+def wrong_calls_of_tests():
+    """The calls of flowtests that docs/TESTS.md shows and that write something else, and how many there are. How long a search took
+    isn't compared."""
+    lines, seen = [], 0
+    for block in re.findall(r'```\n\$ (view/flowtests .*?)```', read_file(TESTS), re.S):
+        call, _, wanted = block.partition('\n')
+        seen += 1
+        environment = {name: value for name, value in os.environ.items() if name != 'FLOWC'}
+        got = subprocess.run([sys.executable, *call.split(' ')], cwd=CHECKOUT, env=environment, capture_output=True, check=False)
+        if without_seconds(got.stdout.decode('latin-1')) != without_seconds(wanted):
+            lines.append('docs/TESTS.md: `%s` writes something else' % call)
+    return lines or ([] if seen else ['docs/TESTS.md: no call']), seen
+
+
+def without_seconds(text):
+    return re.sub(r'[0-9.]+ of 30 seconds', '', text)

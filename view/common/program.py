@@ -10,6 +10,7 @@ from typing import NamedTuple
 from common import CHECKOUT
 
 BUILT = os.path.join(CHECKOUT, 'crates', 'flowc', 'out', 'flowc')
+CHART_TO_C = os.path.join(CHECKOUT, 'crates', 'chart_to_c', 'out', 'chart_to_c')
 NO_PROGRAM = 127
 REFUSED, USAGE, RUN_FAULT, READ_FAULT, MEMORY = 1, 2, 3, 4, 6
 HOW_TO_BUILD = ('`rt ci` at the top of the checkout proves it and leaves it there, which takes a while the first time; a proved '
@@ -38,6 +39,23 @@ def find_program(named):
     if not os.path.isfile(BUILT):
         raise NoProgram('there is no flowc at %s; %s' % (BUILT, HOW_TO_BUILD))
     return BUILT
+
+
+def find_chart_to_c(named, or_none=False):
+    """The path of chart_to_c: the named one, that of the variable CHART_TO_C, or the one that is built in this checkout. Where none
+    is named and none is built, there may be none."""
+    for name, whose in ((named, '--chart-to-c names'), (os.environ.get('CHART_TO_C'), 'the variable CHART_TO_C names')):
+        if name:
+            found = shutil.which(name)
+            if found is None:
+                raise NoProgram('%s %s, which is no program' % (whose, name))
+            return os.path.abspath(found)
+    if os.path.isfile(CHART_TO_C):
+        return CHART_TO_C
+    if or_none:
+        return None
+    raise NoProgram('there is no chart_to_c at %s; `rt ci` at the top of the checkout proves it and leaves it there; one that is '
+                    'kept elsewhere is named by --chart-to-c PROGRAM or by the variable CHART_TO_C' % CHART_TO_C)
 
 
 def run(program, words, out=subprocess.PIPE):

@@ -10,7 +10,7 @@ class Reached:
     def __init__(self, chart, dead):
         self.chart, self.dead = chart, dead
         self.states, self.junctions = set(), set()
-        self.done, self.ways, self.waiting = set(), set(), []
+        self.done, self.ways, self.waiting, self.remembering = set(), set(), [], set()
         self.enter(chart.root, chart.root)
         while self.waiting:
             self.follow(*self.waiting.pop())
@@ -47,8 +47,14 @@ class Reached:
             self.waiting.append((state, kind))
 
     def defaults(self, state):
+        """Enters a child of an OR: with history any that may have been entered before, too."""
         if state.composition == 'or':
             self.list_at(state, 'default')
+            if state.history_at is not None:
+                self.remembering.add(state)
+                for child in state.children:
+                    if child in self.states:
+                        self.enter(child, child)
 
     def enter(self, state, goal):
         """Enters a state on the way to a goal, which is that state or one below it."""
@@ -66,3 +72,5 @@ class Reached:
             self.defaults(state)
         else:
             self.enter(self.towards(state, goal), goal)
+        if state.parent in self.remembering:
+            self.enter(state, state)

@@ -1,6 +1,6 @@
 """All warnings about an accepted chart, in the order of the text. docs/WARNINGS.md explains each."""
 import common                                # noqa: F401, which finds the folder checks
-from chart_check import reached_transitions
+from chart_check import Junction, reached_transitions
 from chart_rules import value_text
 from common.places import Message, line_and_column, place_text
 from lint.allows import Allowed
@@ -90,13 +90,22 @@ def quotients_told(text, chart):
 
 
 def not_reached(text, chart, reached):
-    """The states that are never entered, the topmost ones alone, and the junctions of other states that are never visited."""
+    """The states that are never entered, the topmost ones alone, and the junctions of other states that are never visited, but for
+    those that are meant to be so."""
     for state in chart.states:
         if state not in reached.states and state.parent in reached.states:
             yield Message(state.at, 'NeverEntered', 'nothing leads to the state %s' % state.path(), ())
+    meant = behind_false(chart)
     for junction in chart.junctions:
-        if junction not in reached.junctions and junction.state in reached.states:
+        if junction not in reached.junctions and junction.state in reached.states and junction not in meant:
             yield Message(junction.at, 'NeverVisited', 'nothing leads to the junction %s' % junction.name, ())
+
+
+def behind_false(chart):
+    """The empty junctions behind a guard of true and false alone that is false, by which a search that finds nothing goes on, and
+    to which none is meant to come."""
+    return {each.destination for each in chart.transitions() if isinstance(each.destination, Junction)
+            and not each.destination.transitions and each.guard and constant(each.guard.expression) is False}
 
 
 def not_used(text, chart, uses):

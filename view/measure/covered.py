@@ -11,7 +11,8 @@ FAULTS = {'fault depth': 'depth', **{'fault steps at ' + what: 'steps' for what 
 
 
 class Role:
-    """What an expression is for: a decision, a condition of one as its number and a place, what an assignment assigns, a quotient."""
+    """What an expression is for: a decision, a condition of one as its number and a place, what an assignment assigns, a
+    quotient."""
     __slots__ = 'decision', 'condition', 'assignment', 'quotient'
 
     def __init__(self):

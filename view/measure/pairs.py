@@ -1,5 +1,6 @@
-"""MC/DC by unique cause. A condition decides where two evaluations of its decision have different outcomes, it has a different value
-in each, and each other condition has the same value in both or isn't evaluated in one of them, as `&&` and `||` leave it out."""
+"""MC/DC by unique cause. A condition decides where two evaluations of its decision have different outcomes, it has a different
+value in each, and each other condition has the same value in both or isn't evaluated in one of them, as `&&` and `||` leave it
+out."""
 
 
 def is_pair(place, one, other):

@@ -4,7 +4,7 @@ from picture.gates import border_point, draw_loop, side_of
 from picture.graph import Graph
 from picture.pictures import ACROSS, DOWN, PAD, leaf
 from picture.rows import in_rows
-from picture.sizes import Size, text_size
+from picture.sizes import Size, least_width, text_size
 
 
 def pictures_of(box, work):
@@ -40,7 +40,7 @@ class Answer:
         self.graph, self.found, self.picture = graph, found, graph.picture
         _, _, width, self.height = map(float, found['bb'].split(','))
         self.top = PAD if graph.has_header else graph.header.height + 14
-        whole = max(width, graph.header.width) + 2 * PAD
+        whole = max(width, least_width(graph.box)) + 2 * PAD
         self.left = (whole - width) / 2
         self.picture.size = Size(whole, self.height + self.top + PAD)
         self.gates = {}

@@ -5,8 +5,10 @@ tree before names are looked up, which has the same order."""
 import hashlib
 
 import chart_syntax as syntax
-from chart_check import LISTS, Junction, check_chart, read_chart
+from chart_check import LISTS, Assign, Junction, check_chart, read_chart
+from chart_rules import value_text
 
+from common.chart_sum import sum_of
 from picture import labels
 
 
@@ -34,7 +36,8 @@ class ChartModel:
     def __init__(self, text):
         self.text, written, self.chart = text, read_chart(text), check_chart(text)
         self.name = written.root.name.text
-        self.sum = hashlib.sha256(syntax.canonical_text(written).encode('latin-1')).hexdigest()
+        self.sum = sum_of(written)
+        self.sha256 = hashlib.sha256(syntax.canonical_text(written).encode('latin-1')).hexdigest()
         self.written = dict(zip(self.chart.states, all_states(written.root)))
         self.state_ids = {state: 's%d' % number for number, state in enumerate(self.chart.states)}
         self.junction_ids = {junction: 'j%d' % number for number, junction in enumerate(self.chart.junctions)}
@@ -46,6 +49,19 @@ class ChartModel:
             for junction, each in zip(state.junctions, self.written[state].junctions):
                 self.add_list('junction', junction, each.transitions, junction.transitions)
         self.find_lists()
+        assigned = {each.datum for block in self.chart.blocks() for each in block if isinstance(each, Assign)}
+        self.constants = [each for each in self.chart.data if each.kind != 'input' and each not in assigned]
+
+    def declarations(self):
+        """The declarations of the chart, as a text each; of data that nothing assigns and that are no inputs it says so."""
+        for each in self.chart.events:
+            yield 'event %s %s' % (each.kind, each.name)
+        for each in self.chart.data:
+            text = '%s %s : %s' % (each.kind, each.name, syntax.scale_text(each.scale) if each.scale else 'bool')
+            text += ' ' + each.mode if each.scale and each.mode != 'saturate' else ''
+            first = each.first()
+            text += ' = ' + value_text(first) if first or each in self.constants else ''
+            yield text + (', a constant' if each in self.constants else '')
 
     def add_list(self, kind, owner, written, resolved):
         for place, (each, found) in enumerate(zip(written, resolved), 1):

@@ -24,8 +24,8 @@ CAVEAT = ('A trace shows the states after each event, and nothing of what happen
           'transition that has signs need not have been taken. Only those marked \u201ccan\u2019t have been taken\u201d are certain.')
 EXACT = ('The reference in checks/ ran the chart and told which states were entered, also those that were left again within an event, '
          'and which transitions ran: those on a way that ended at a state or at an empty junction. A transition that was tried, '
-         'and from whose junction the search came back, isn\u2019t counted, nor one whose search was cut or ended by a fault; but one from '
-         'which every search comes back is counted where it was enabled.')
+         'and from whose junction the search came back, isn\u2019t counted, nor one whose search was cut or ended by a fault; but one '
+         'from which every search comes back is counted where it was enabled.')
 
 
 class Gaps:
@@ -72,8 +72,8 @@ class Gaps:
         return [goal for goal in self.goals if goal.key not in met]
 
     def parts_covered(self):
-        """For each kind how many there are that are covered, or have a sign, and how many there are. A transition whose guard is always
-        false isn't counted."""
+        """For each kind how many are covered, or have a sign, and how many there are. A transition whose guard is always false isn't
+        counted."""
         states, transitions = len(self.model.chart.states) - 1, len(self.model.transitions)
         shut = sum(1 for gap in self.transitions.values() if gap.kind == SHUT)
         return {STATE: (states - len(self.states), states), TRANSITION: (transitions - len(self.transitions), transitions - shut),
@@ -108,7 +108,7 @@ class Gaps:
         for goal in self.missing():
             line, column = line_and_column(self.model.text, goal.at)
             missing.append({'part': goal.where, 'text': goal.what, 'why': 'never so', 'line': line, 'column': column})
-        return {'chart': self.model.name, 'sha256': self.model.sum, 'runs': runs, 'exact': self.exact, 'note': self.note(),
+        return {'chart': self.model.name, 'sum': self.model.sum, 'runs': runs, 'exact': self.exact, 'note': self.note(),
                 'counts': {kind: {'covered': came, 'all': all_} for kind, (came, all_) in self.parts_covered().items()},
                 'missing': missing}
 
@@ -163,8 +163,7 @@ class Coverage(Gaps):
 
 
 class Suite(Gaps):
-    """The gaps that several runs leave together: those that each of them leaves. How sure one is, is how sure the least sure of them
-    is."""
+    """The gaps that several runs leave together: those that each of them leaves. One is as sure as the least sure of them."""
 
     def __init__(self, model, runs):
         super().__init__(model)

@@ -2,13 +2,17 @@
 
 A drawing is right where each box stands in its parent and beside its siblings, each transition is drawn once or listed once,
 begins at its source and ends at its destination from the right side, its parts meet at borders, and no label stands on
-another label, on a state, a junction or a name. `dot` promises none of the last."""
+another label, on a state, a junction or a name, or in the state that its outer transition leaves. `dot` promises none of the last.
+Regions stand in their order, names of junctions within their box and over no frame, and ways between the same two junctions close
+to each other."""
 from picture.curves import far, samples
+from picture.graph import between_two_junctions
 from picture.room import overlap
-from picture.sizes import header_of
+from picture.sizes import header_of, text_size
 
 NEAR = 2.5                                                   # from a border, in pixels
 BROKEN = 6                                                   # between two parts of an edge
+WAY = 20                                                     # the room for one of several ways between the same two junctions
 
 
 def rectangle(place):
@@ -91,16 +95,54 @@ def label_faults(drawn):
             yield 'the label of %s stands on a state, a junction or a name' % edge.transition.text
         if not holds(rectangle((0, 0, drawn.placed.size)), place):
             yield 'the label of %s stands out of the drawing' % edge.transition.text
+        if edge.kind == 'outer' and edge.tail not in edge.head.homes() and overlap(place, place_of(drawn.placed, edge.tail), 0.5):
+            yield 'the label of %s stands in the state that it leaves' % edge.transition.text
     drawable = {edge for edge in drawn.sheet.drawn_edges() if edge.lines}
     if drawable != set(texts.labels):
         yield '%d labels are drawn of %d' % (len(texts.labels), len(drawable))
+
+
+def name_faults(drawn):
+    """Names of junctions that are cut off, or that stand over a frame."""
+    for node, place in drawn.texts.names.items():
+        if not holds(rectangle(drawn.placed.boxes[node.home]), place):
+            yield 'the name of the junction %s stands out of %s' % (node.name, called(node.home))
+        for box in drawn.sheet.boxes:
+            if box.home is node.home and overlap(place, rectangle(drawn.placed.boxes[box]), 0.5):
+                yield 'the name of the junction %s stands over the frame of %s' % (node.name, called(box))
+
+
+def region_faults(drawn):
+    """Regions that stand in another order than that of the text, from the left to the right and then from above to below."""
+    for box in drawn.sheet.boxes:
+        if box.composition == 'and':
+            places = [rectangle(drawn.placed.boxes[each]) for each in box.boxes]
+            for at, (one, other) in enumerate(zip(places, places[1:])):
+                if not (other[0] >= one[0] + one[2] - NEAR or other[1] >= one[1] + one[3] - NEAR):
+                    yield 'the regions %s and %s stand in another order' % (called(box.boxes[at]), called(box.boxes[at + 1]))
+
+
+def way_faults(drawn):
+    """Ways between the same two junctions, side by side, that take more height than their labels and the room for each ask for."""
+    placed = drawn.placed
+    for box in drawn.sheet.boxes:
+        edges = [edge for edge in drawn.sheet.drawn_edges() if edge.tail.home is box]
+        ways = {}
+        for edge in between_two_junctions(edges):
+            ways.setdefault(frozenset((edge.tail, edge.head)), []).append(edge)
+        for (one, other), group in ((tuple(pair), group) for pair, group in ways.items()):
+            (x, y, _), (to_x, to_y, _) = placed.nodes[one], placed.nodes[other]
+            heights = [point[1] for edge in group for point in samples(placed.paths[edge], 4)]
+            most = abs(y - to_y) + sum(text_size(edge).height for edge in group if edge.lines) + WAY * len(group)
+            if abs(x - to_x) > abs(y - to_y) and max(heights) - min(heights) > most:
+                yield 'the ways between %s and %s take %.0f in height' % (one.name, other.name, max(heights) - min(heights))
 
 
 def faults_of(sheets):
     """All that is wrong with the drawings of a chart."""
     model = sheets.model
     for drawn in sheets.all:
-        for faults in (box_faults, edge_faults, label_faults):
+        for faults in (box_faults, edge_faults, label_faults, name_faults, region_faults, way_faults):
             yield from faults(drawn)
     edges = [edge.transition for drawn in sheets.all for edge in drawn.sheet.edges]
     states = [box.state for drawn in sheets.all for box in drawn.sheet.boxes if box is not drawn.sheet.root]

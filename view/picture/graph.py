@@ -8,6 +8,7 @@ SPACE = ('<<TABLE BORDER="0" CELLBORDER="0" CELLSPACING="0" CELLPADDING="0" FIXE
 NODE_APART = 0.32                                            # in inches, as all that dot is told
 RANK_APART = {DOWN: 0.30, ACROSS: 0.34}
 GATES_APART = 0.14
+CLOSE = 15                                                   # ways between the same two junctions stand so much closer, in pixels
 
 
 class Graph:
@@ -24,11 +25,13 @@ class Graph:
             self.add_box(each, work.chosen(inner[each], direction))
         for each in box.nodes:
             self.add_node(each)
+        self.pairs = between_two_junctions(work.edges[box])
         for edge in work.edges[box]:
             for _, start, end in [step for step in edge.steps if step[0] is box]:
                 self.add_edge(edge, start, end)
         self.has_header = direction == DOWN and bool(self.first)
         self.order_ranks()
+        self.order_regions()
 
     def node(self, name, size, **more):
         attributes = {'width': inches(size.width), 'height': inches(size.height), 'label': '""', 'fixedsize': 'true', **more}
@@ -67,7 +70,8 @@ class Graph:
             more.append('dir=back')
         if edge.lines and self.box is labelled_step(edge)[0]:
             size = label_size(edge)
-            more.append('label=' + SPACE % (size.width + 1, size.height + 1))
+            height = size.height - (CLOSE if self.direction == ACROSS and edge in self.pairs else 0)
+            more.append('label=' + SPACE % (size.width + 1, height + 1))
         if edge.kind == 'default':
             more.append('weight=3')
         self.lines.append('%s -> %s [%s];' % (names[0], names[1], ' '.join(more)))
@@ -102,6 +106,12 @@ class Graph:
                 pair = (one, other) if self.direction == DOWN else (other, one)
                 self.nodes.append('%s -> %s [style=invis];' % pair)
 
+    def order_regions(self):
+        """Tells that regions stand beside each other in their order."""
+        regions = [each.id for each in self.box.boxes] if self.box.composition == 'and' else []
+        if len(regions) > 1:
+            self.nodes.append('{ rank=same; %s [style=invis]; }' % ' -> '.join(regions))
+
     def text(self):
         apart = RANK_APART[self.direction]
         if any(picture.gates for picture in self.picture.pictures.values()):
@@ -109,6 +119,15 @@ class Graph:
         head = ('digraph { rankdir=%s; nodesep=%.3f; ranksep=%.3f; splines=true; node [fontsize=10]; edge [fontsize=10 arrowsize=0.7];'
                 % (self.direction, NODE_APART * self.work.spread, apart * self.work.spread))
         return '\n'.join([head] + self.nodes + self.lines) + '\n}\n'
+
+
+def between_two_junctions(edges):
+    """The edges between two junctions that aren't the only ones between them."""
+    ways = {}
+    for edge in edges:
+        if edge.tail.kind == edge.head.kind == 'junction' and edge.tail is not edge.head:
+            ways.setdefault(frozenset((edge.tail, edge.head)), []).append(edge)
+    return {edge for each in ways.values() if len(each) > 1 for edge in each}
 
 
 def inches(pixels):

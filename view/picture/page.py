@@ -7,6 +7,7 @@ from string import Template
 from chart_check import Junction
 from chart_syntax import scale_text
 
+from needs.page import requirements_in_page
 from picture.curves import number
 from picture.svg import MARGIN
 from picture.svg_style import style_in_page
@@ -45,8 +46,8 @@ def model_for_page(sheets, lines, end, gaps):
         'states': [{'id': ids[state], 'path': model.paths[state], 'name': state.name, 'parent': ids.get(state.parent),
                     'composition': state.composition} for state in model.chart.states],
         'transitions': [transition_for_page(model, each) for each in model.transitions],
-        'data': [{'name': each.name, 'kind': each.kind, 'sort': scale_text(each.scale) if each.scale else 'bool'}
-                 for each in model.chart.data],
+        'data': [{'name': each.name, 'kind': each.kind, 'sort': scale_text(each.scale) if each.scale else 'bool',
+                  'constant': each in model.constants} for each in model.chart.data],
         'events': [{'name': each.name, 'kind': each.kind} for each in model.chart.events],
         'sheets': [{'id': sheets.name_of(drawn), 'crumbs': crumbs_for_page(sheets, drawn)} for drawn in sheets.all],
         'fired': [line.fired for line in lines] if gaps.exact else None,
@@ -74,12 +75,14 @@ def page_of(sheets, lines, end, gaps, run):
     items = ['<li>%s%s: %s</li>' % (escape(what), ' <code>%s</code>' % escape(text) if text else '', escape(why))
              for what, text, why in gaps.items()]
     return Template(part('page.html')).substitute(
-        name=escape(sheets.model.name), run=escape(run),
+        name=escape(sheets.model.name), run=escape(run), sum=sheets.model.sum,
         style=part('page.css') + style_in_page() + part('run.css') + part('print.css'),
         drawings='\n'.join(drawing_in_page(sheets, drawn, gaps) for drawn in sheets.all),
         summary='Coverage: ' + escape(gaps.head()), gap_items='\n'.join(items) or '<li>nothing is without a sign</li>',
+        declarations='\n'.join('<li><code>%s</code></li>' % escape(each) for each in sheets.model.declarations()),
         note=escape(gaps.note()), fired_word='fired' if gaps.exact else 'may have fired',
         ended_word='<span><i class="g"></i>ended in a junction</span>' if gaps.exact else '',
         cut='' if len(lines) == len(shown) else 'the first %d of %d lines' % (len(shown), len(lines)),
         model=for_script(json.dumps(model_for_page(sheets, shown, end, gaps), separators=(',', ':'))),
-        trace='\n'.join(line.text for line in shown), script='\n'.join(map(part, SCRIPTS)))
+        trace='\n'.join(line.text for line in shown), requirements=requirements_in_page(sheets.model),
+        script='\n'.join(map(part, SCRIPTS)))

@@ -2,7 +2,7 @@
 from itertools import product
 
 from picture.pictures import ACROSS, DOWN, PAD, Picture
-from picture.sizes import Size, header_of, node_size
+from picture.sizes import Size, header_of, least_width, node_size
 
 GAP = 16                                                     # between things that stand in rows
 REGION_GAP = 10
@@ -32,7 +32,7 @@ def rows_of(box, pictures, work):
     gap = REGION_GAP if stretched else GAP
     lines = best_lines(box.inside(), sizes, gap, (True, False) if stretched else (True,), work.shape)
     header = header_of(box)
-    width = max(lines.width, header.width)
+    width = max(lines.width, least_width(box))
     top = header.height + 12
     at = 0
     for line in lines.lines:

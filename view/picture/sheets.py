@@ -120,7 +120,7 @@ class Sheets:
         width, height = max(each.width for each in self.all), sum(each.height + above for each in self.all)
         lines = ['<svg xmlns="http://www.w3.org/2000/svg" class="flowview" viewBox="%s %s %s %s" width="%s" height="%s" '
                  'role="group" aria-label="Chart %s" data-chart-sha256="%s">'
-                 % (-MARGIN, -MARGIN, *map(number, (width, height) * 2), self.model.name, self.model.sum),
+                 % (-MARGIN, -MARGIN, *map(number, (width, height) * 2), self.model.name, self.model.sha256),
                  '<style>%s</style>' % style_alone(theme, width > height)]
         if several:
             lines.append('<rect class="ground" x="%d" y="%d" width="%s" height="%s"/>' % (-MARGIN, -MARGIN, number(width), number(height)))

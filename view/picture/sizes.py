@@ -39,6 +39,17 @@ def header_of(box):
     return Size(width, labels.NAME_LINE + labels.CODE_LINE * len(lines))
 
 
+def junction_name_width(node):
+    """How wide the small name beside a junction is."""
+    return labels.code_width(node.name, labels.SMALL_SIZE) * 0.9
+
+
+def least_width(box):
+    """How wide a box is at least within its margins: for its texts, and for the names of the junctions in it."""
+    names = [junction_name_width(node) for node in box.nodes if node.kind == 'junction' and not node.listed]
+    return max([header_of(box).width, *names])
+
+
 def leaf_size(box):
     header = header_of(box)
     return Size(max(54, header.width + 20), max(32, header.height + 14))

@@ -1,10 +1,9 @@
 """Finds places for the labels of transitions, their numbers, and the names of junctions."""
 from math import inf, sqrt
 
-from picture import labels
 from picture.curves import on_path, samples
 from picture.room import TAKEN, Room, grown, overlap
-from picture.sizes import JUNCTION, header_of, text_size
+from picture.sizes import JUNCTION, header_of, junction_name_width, text_size
 
 NUMBER = 8, 10                                               # the size of a number at a tail
 NAME_HEIGHT = 12
@@ -80,13 +79,20 @@ class SmallTexts:
         """Whether a label stands on nothing, has no line over it, is near its own line, and isn't nearer to a foreign one."""
         own = nearest(place, self.points[edge])[0]
         return (not self.room.taken(place) and not self.room.lines_in(grown(place, 2)) and own <= LEADER
-                and not (own > CLEAR and self.beside(edge, place)))
+                and not (own > CLEAR and self.beside(edge, place)) and not self.is_in_source(edge, place))
+
+    def is_in_source(self, edge, place):
+        """Whether the label of an outer transition stands in the state that it leaves, where inner ones stand."""
+        if edge.kind != 'outer' or edge.tail in edge.head.homes():
+            return False
+        x, y, size = self.placed.boxes[edge.tail]
+        return overlap(place, (x, y, size.width, size.height), 0.5)
 
     def best_label(self, edge):
         """The first of the places for a label that costs least. What is quickly told is asked first."""
         best, least = None, inf
         for place in self.label_places(edge):
-            cost = TAKEN * self.room.taken(place)
+            cost = TAKEN * (self.room.taken(place) + self.is_in_source(edge, place))
             for more in (self.line_cost, self.distance_cost):
                 cost += more(edge, place) if cost < least else 0
             if cost < least:
@@ -114,10 +120,11 @@ class SmallTexts:
                           and each[1] + height < whole.height - 6]
 
     def clashes(self):
-        """The edges whose labels stand on another label or on a state, a junction or the name of a state."""
+        """The edges whose labels stand on another label, on a state, a junction or the name of a state, or in the state that they
+        leave."""
         found, seen = [], []
         for edge, place in self.labels.items():
-            if any(overlap(place, other, 0.5) for other in seen + self.solid):
+            if any(overlap(place, other, 0.5) for other in seen + self.solid) or self.is_in_source(edge, place):
                 found.append(edge)
             else:
                 seen.append(place)
@@ -136,14 +143,30 @@ class SmallTexts:
         self.numbers[edge] = self.room.best(places)
 
     def place_name(self, node, x, y):
-        width = labels.code_width(node.name, labels.SMALL_SIZE) * 0.9
+        width = junction_name_width(node)
         right, left = (9, 6, 12, 18), (-9, -6, -12, -18)
         offsets = [(9, -6), (-9 - width, -6), (6, -18), (-6 - width, -18), (6, 7), (-6 - width, 7), (-width / 2, -20),
                    (-width / 2, 9)]
         offsets += [(dx, dy) for dx in right for dy in (-13, 2, -6)]
         offsets += [(dx - width, dy) for dx in left for dy in (-13, 2, -6)]
         offsets += [(-width / 2, -30), (-width / 2, 19), (26, -6), (-26 - width, -6)]
-        self.names[node] = self.room.best([(x + dx, y + dy, width, NAME_HEIGHT) for dx, dy in offsets])
+        places = [(x + dx, y + dy, width, NAME_HEIGHT) for dx, dy in offsets]
+        self.names[node] = self.room.best(self.within(node, places))
+
+    def within(self, node, places):
+        """The places for the name of a junction, moved into the box in which it stands, without those over the frame of another
+        box, where any is left."""
+        left, top, right, bottom = inner_frame(self.placed.boxes[node.home])
+        moved = [(max(left, min(x, right - width)), y, width, height) for x, y, width, height in places]
+        moved = [each for each in moved if top <= each[1] and each[1] + each[3] <= bottom] or moved
+        frames = [(x, y, size.width, size.height) for box, (x, y, size) in self.placed.boxes.items() if box in node.home.boxes]
+        return [each for each in moved if not any(overlap(each, frame) for frame in frames)] or moved
+
+
+def inner_frame(place):
+    """The ends of a box within its frame: left, top, right and bottom."""
+    x, y, size = place
+    return x + 3, y + 3, x + size.width - 3, y + size.height - 3
 
 
 def closest_in(rectangle, point):

@@ -19,6 +19,10 @@ def is_trace(data):
     return data.startswith(b'0 start [')
 
 
+def is_trace_of_net(data):
+    return re.match(rb'0 [A-Za-z]\w* 0 start \[', data) is not None
+
+
 class Trace:
     """Reads the lines of a trace of a chart."""
 

@@ -1,5 +1,6 @@
 """Results of tests as JUnit XML, in the form that servers of continuous integration read: `testsuites` with a `testsuite` for each
-chart, a `testcase` for each event file, and in it a `failure` where the trace is another one or an `error` where there is none."""
+chart, which has the sum of the chart as a property, a `testcase` for each event file, and in it a `failure` where the trace is
+another one or an `error` where there is none."""
 import xml.etree.ElementTree as tree
 from collections import namedtuple
 
@@ -7,12 +8,14 @@ from collections import namedtuple
 Case = namedtuple('Case', 'chart name seconds failure error')
 
 
-def junit_text(cases):
-    """The text of the file."""
+def junit_text(cases, sums):
+    """The text of the file. Each chart has its sum, or an empty one where it can't be read."""
     top = tree.Element('testsuites', totals(cases))
     for chart in dict.fromkeys(case.chart for case in cases):
         some = [case for case in cases if case.chart == chart]
         suite = tree.SubElement(top, 'testsuite', {'name': printable(chart), **totals(some)})
+        if sums[chart]:
+            tree.SubElement(tree.SubElement(suite, 'properties'), 'property', {'name': 'sum', 'value': sums[chart]})
         for case in some:
             add_case(suite, case)
     tree.indent(top)

@@ -1,5 +1,5 @@
-"""The messages of flowwhy and flowlint as JSON and as SARIF 2.1.0, the OASIS standard for results of static analysis. They are read from
-the lines that the tools write: a head that editors read, the line of the source, a mark below the place, and notes."""
+"""The messages of flowwhy and flowlint as JSON and as SARIF 2.1.0, the OASIS standard for results of static analysis. They are
+read from the lines that the tools write: a head that editors read, the line of the source, a mark below the place, and notes."""
 import json
 import os
 import re

@@ -1,13 +1,13 @@
 """Tries every world that a run can come to, where these are few. Then a goal that doesn't come in any of them never comes.
 
-A world is told from another by its active states, by what its states remember, and by the data that some expression reads. Two things
-make the worlds fewer:
+A world is told from another by its active states, by what its states remember, and by the data that some expression reads. Two
+things make the worlds fewer:
 
     inputs      Where only their order counts (`classes` in inputs.py), a few values stand for all, and a line may set each input, so
                 that a world is the same whatever values its inputs have. Otherwise an input of a type of few values has them all.
     counters    A datum that is only compared with numbers, set to numbers, and raised by numbers, and that doesn't wrap, behaves
-                alike above all of these numbers: it stays there until it is set. So all values above the greatest count as one. Whether
-                it saturates isn't told where it came there."""
+                alike above all of these numbers: it stays there until it is set. So all values above the greatest count as one.
+                Whether it saturates isn't told where it came there."""
 import time
 from collections import deque
 from fractions import Fraction
@@ -88,8 +88,8 @@ def all_values(datum):
 
 
 class AllWorlds:
-    """The worlds of a chart, each tried with all lines. Where `is_whole` holds at the end, there are no others. With `exact` counters
-    have each of their values."""
+    """The worlds of a chart, each tried with all lines. Where `is_whole` holds at the end, there are no others. With `exact`
+    counters have each of their values. The nearest worlds are tried first, so that it ends at the first run that is too long."""
 
     def __init__(self, finder, exact=False):
         chart = finder.parts.chart
@@ -124,6 +124,8 @@ class AllWorlds:
             return
         while self.waiting and len(self.seen) < MOST_WORLDS:
             node = self.waiting.popleft()
+            if node.length >= self.finder.longest:
+                return
             for event in self.events:
                 for inputs in self.choices:
                     if time.process_time() > until:
@@ -135,7 +137,7 @@ class AllWorlds:
         self.is_whole = not self.waiting
 
     def tells(self, goal):
-        """Whether the goal never comes if it didn't come in any world. Of a counter that was above its numbers the end isn't told."""
+        """Whether the goal never comes if it came in no world. Of a counter that was above its numbers the end isn't told."""
         if goal.kind == CLIP or goal.key[:2] == (FAULT, 'overflow'):
             return self.finder.parts.assignments[goal.key[-2 if goal.kind == CLIP else -1]].part.datum not in self.above
         return True

@@ -1,7 +1,8 @@
 """Runs event files through the C that chart_to_c writes of a chart, and tells which branches of it they take, by gcov.
 
-The C is compiled by gcc without optimization, so that its branches are those of the conditions in the C. The trace of each file must
-be that of the chart. A branch that no file takes is told with the part of the chart that its function is of, by the comment above it."""
+The C is compiled by gcc without optimization, so that its branches are those of the conditions in the C. The trace of each file
+must be that of the chart. A branch that no file takes is told with the part of the chart that its function is of, by the comment
+above it."""
 import gzip
 import json
 import os

@@ -1,5 +1,5 @@
-"""Asks z3 whether a decision can be so at all, whatever its data are within their types and whatever states are active. The terms of
-the conditions are those that the rules make of them."""
+"""Asks z3 whether a decision can be so at all, whatever its data are within their types and whatever states are active. The terms
+of the conditions are those that the rules make of them."""
 from chart_check import Active, Between, Sign, ends_of
 from chart_rules import RunFault, Rules
 from measure.parts import LOGIC, OUTCOME, VALUE

@@ -1,4 +1,5 @@
-"""What a search has found, and what is missing. A search gives each node that it comes to, which is kept where it has something new."""
+"""What a search has found, and what is missing. A search gives each node that it comes to, which is kept where it has something
+new."""
 import time
 from collections import defaultdict, deque
 

@@ -1,5 +1,5 @@
-"""Numbers and flags of a run whose inputs are unknown: each has its value in this run and a term of z3 over the inputs. The rules of
-the folder checks calculate with them as with fractions. Where the rules ask a flag, the path notes the term and the answer."""
+"""Numbers and flags of a run whose inputs are unknown: each has its value in this run and a term of z3 over the inputs. The rules
+of the folder checks calculate with them as with fractions. Where the rules ask a flag, the path notes the term and the answer."""
 from fractions import Fraction
 
 from suites.z3_found import z3
@@ -96,7 +96,7 @@ class Number:
     def __ne__(self, other):
         if self.floor_of is not None or isinstance(other, Quotient):
             # The rules only count whether bits were dropped: no run hangs on it.
-            return self.concrete != self.other(other).concrete if not isinstance(other, Quotient) else self.concrete != other.concrete
+            return self.concrete != (other if isinstance(other, Quotient) else self.other(other)).concrete
         return self.compared(other, lambda a, b: a != b, lambda a, b: a != b)
 
     def __lt__(self, other):

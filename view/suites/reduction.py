@@ -1,6 +1,6 @@
-"""Makes few and short files of what was found. First the keys are chosen that the goals need, of a condition the pair of evaluations
-that adds fewest. Then files are put together of the shortest runs to these keys, each run going on where the last one ended, as long as
-that covers something. At last lines are left out of each file as long as the files still cover all."""
+"""Makes few and short files of what was found. First the keys are chosen that the goals need, of a condition the pair of
+evaluations that adds fewest. Then files are put together of the shortest runs to these keys, each run going on where the last one
+ended, as long as that covers something. At last lines are left out of each file as long as the files still cover all."""
 import time
 
 from measure.covered import VECTOR

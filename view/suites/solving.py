@@ -1,5 +1,5 @@
-"""Other inputs by solving. A run over unknown inputs gives its path condition; the flags that it asked for are negated one by one, z3
-looks for inputs with which the run goes as before up to there and then otherwise, and the rules run these."""
+"""Other inputs by solving. A run over unknown inputs gives its path condition; the flags that it asked for are negated one by one,
+z3 looks for inputs with which the run goes as before up to there and then otherwise, and the rules run these."""
 import time
 from collections import Counter
 from fractions import Fraction

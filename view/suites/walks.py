@@ -1,5 +1,5 @@
-"""Runs by chance: short walks from worlds that were new, or that came nearest to what is missing. A line is often given again, up to
-many times, since counters count lines."""
+"""Runs by chance: short walks from worlds that were new, or that came nearest to what is missing. A line is often given again, up
+to many times, since counters count lines."""
 import random
 
 from suites.inputs import events_of, held, inputs_read, tried_values

@@ -127,7 +127,8 @@ class Machine:
 
 def line_text(event, inputs):
     """A line of an event file."""
-    return ' '.join([event.name if event else 'tick'] + ['%s=%s' % (datum.name, value_text(value)) for datum, value in inputs.items()])
+    given = ['%s=%s' % (datum.name, value_text(value)) for datum, value in inputs.items()]
+    return ' '.join([event.name if event else 'tick', *given])
 
 
 def events_text(lines):

@@ -1,4 +1,4 @@
-// ---- the plots: a row for each state that is an OR, each datum and each output event
+// ---- the plots: a row for each state that is an OR, each datum that may change and each output event
 const plots = byId("plots");
 const rows = [];
 function addGroup(title) {
@@ -123,8 +123,9 @@ function setUpPlots() {
     const indent = "\u2007".repeat(2 * Math.max(0, state.path.split("/").length - 1));
     addRow(indent + state.name, "", "the active child of " + (state.path || state.name), 18, childOf(state), drawNames);
   }
-  if (model.data.length) addGroup("Data");
+  if (model.data.some(datum => !datum.constant)) addGroup("Data");
   model.data.forEach((datum, at) => {
+    if (datum.constant) return;                              // it stands among the declarations
     const flag = datum.sort === "bool";
     addRow(datum.name, datum.kind === "local" ? "" : datum.kind, `${datum.kind} ${datum.name} : ${datum.sort}`, flag ? 18 : 30,
       number => lines[number].values[at], flag ? (track, height, valueAt) => drawBands(track, height, valueAt, "band") : drawNumber);

@@ -1,0 +1,1 @@
+"""The canonical layout of a chart with its comments, and to which part of the chart a comment belongs."""

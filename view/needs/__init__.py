@@ -1,0 +1,1 @@
+"""flowreq: which requirements the parts of a chart have."""

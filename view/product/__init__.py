@@ -1,0 +1,1 @@
+"""flownames and flowfmu: what stands beside the C of a chart in a product."""

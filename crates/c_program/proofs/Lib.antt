@@ -6,3 +6,4 @@ pub mod NeedLemmas
 pub mod OtherValues
 pub mod UsageLemmas
 pub mod OthersLemmas
+pub mod FileLemmas

@@ -288,7 +288,7 @@ def flowc(path):
 
 
 def chart_to_c(path):
-    return Program(os.path.abspath(path), C_COMMANDS, C_USAGE)
+    return Program(os.path.abspath(path), (*C_COMMANDS, '--version'), C_USAGE)
 
 
 def answer(program, words, files, devices, memory):

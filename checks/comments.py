@@ -215,7 +215,8 @@ class Comparison:
             write(folder, chart.root.name + '.h', header)
             source, functions = program_of(chart, source, seed, self.options.events)
             write(folder, 'program.c', source)
-            output_of(['gcc', '-std=gnu99', '-O0', '-w', 'program.c', '-o', 'program'], folder)
+            recursion = '-D%s_MAY_RECURSE' % c_name(chart)
+            output_of(['gcc', '-std=gnu99', '-O0', '-w', recursion, 'program.c', '-o', 'program'], folder)
             told = [line.split() for line in output_of(['./program'], folder).splitlines()]
         called = {int(line[1]) for line in told if line[0] == 'called'}
         return functions, called, [tuple(map(int, line[1:])) for line in told if line[0] == 'wrong'], Numbers(chart)

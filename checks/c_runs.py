@@ -140,12 +140,10 @@ class Compared(NamedTuple):
 def compare_chart(seed, program, number):
     """Compares a random chart, which has an event file and bounds; None where the chart isn't accepted."""
     choices = random.Random('c %s %d' % (seed, number))
-    made = random_charts.Maker(choices, True).chart()
-    text = random_charts.Writer(choices).chart(made)
-    try:
-        chart = check_chart(text)
-    except rules.Fault:
+    drawn = random_charts.accepted_text(choices)
+    if drawn is None:
         return None
+    text, chart = drawn
     events, bounds = random_charts.event_file(choices, chart), bounds_of(choices)
     expected = rules.run_rules(text, events.encode('latin-1'), *bounds)
     lines = compared('chart %d' % number, program, text, events, expected, words_for(bounds))

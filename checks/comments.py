@@ -246,14 +246,10 @@ class Comparison:
     def compared_chart(self, number):
         """The same, where calls may nest deeply."""
         choices = random.Random('c %s %d' % (self.options.seed, number))
-        made = random_charts.Maker(choices, True).chart()
-        text = random_charts.Writer(choices).chart(made)
-        if self.options.largest and len(text) > self.options.largest:
+        drawn = random_charts.accepted_text(choices, self.options.largest)
+        if drawn is None:
             return None
-        try:
-            check_chart(text)
-        except rules.Fault:
-            return None
+        text, _ = drawn
         bounds = bounds_of(choices)
         lines, counts = self.compared('chart %d' % number, text, bounds, choices.randrange(1, 2 ** 63))
         return Compared(counts, lines, 'c %s %d %d %d' % (self.options.seed, number, *bounds), {'chart': text.encode('latin-1')})

@@ -24,7 +24,6 @@ from typing import NamedTuple
 import chart_rules as rules
 import random_charts
 from chart_c import FOLDER, LONGEST, WARNINGS, Failed, compile_driver, make_c, output_of, write
-from chart_check import check_chart
 from c_runs import words_for
 from programs import at_least_one, differences, ended, keep_files, parser, print_counts, results_of
 from random_compiled import bounds_of, features_of
@@ -86,14 +85,10 @@ class Comparison:
     def compared_chart(self, number):
         """The same, where calls may nest deeply."""
         choices = random.Random('c %s %d' % (self.options.seed, number))
-        made = random_charts.Maker(choices, True).chart()
-        text = random_charts.Writer(choices).chart(made)
-        if self.options.largest and len(text) > self.options.largest:
+        drawn = random_charts.accepted_text(choices, self.options.largest)
+        if drawn is None:
             return None
-        try:
-            chart = check_chart(text)
-        except rules.Fault:
-            return None
+        text, chart = drawn
         files = [random_charts.event_file(choices, chart) for _ in range(self.options.files)]
         bounds = bounds_of(choices)
         charts = Counter({'all': 1, **dict.fromkeys(features_of(chart), 1)})

@@ -1041,6 +1041,18 @@ class Writer:
 
 # ---- an event file for a chart
 
+def accepted_text(choices, largest=None):
+    """The text of a random chart, and the chart; None where it isn't accepted, or the text is longer than that."""
+    made = Maker(choices, True).chart()
+    text = Writer(choices).chart(made)
+    if largest and len(text) > largest:
+        return None
+    try:
+        return text, check.check_chart(text)
+    except Fault:
+        return None
+
+
 def event_file(choices, chart):
     """The text of an event file. Most files have good lines only."""
     wrong = choices.choice([0, 0, 0, 0.2])

@@ -10,7 +10,7 @@ use Rattle.c_subset.specs.declared.trees.CType.TheVariants.{Signed}
 use Rattle.c_subset.specs.declared.trees.Comparison.{Comparison}
 use Rattle.c_subset.specs.declared.trees.Comparison.TheVariants.{IsEqual, IsUnequal, IsBelow, IsAtMost, IsAbove}
 use Rattle.c_subset.specs.declared.trees.Comparison.TheVariants.{IsAtLeast}
-use Rattle.c_subset.specs.Trees.{CExpr, Const, Local, Bang, Compare, Block, End, If, Return}
+use Rattle.c_subset.specs.Trees.{CExpr, Const, Local, Bang, Compare, Block, If, Return}
 use Rattle.c_subset.specs.Meaning.{CValue, Meaning, Gives, with_meaning, gives, converted, one_if, is_true}
 use Rattle.c_subset.specs.Meaning.{passes, truth}
 use Rattle.c_subset.specs.Meaning.{compared, read_as, Store, Locals, meaning}
@@ -18,9 +18,11 @@ use Rattle.c_subset.specs.Running.{Outcome, Returns, with_value, and_on, same_ty
 use Rattle.c_subset.proofs.TypeLemmas.{truth-stays}
 use Rattle.c_functions.specs.Plans.{word, number}
 use Rattle.c_functions.proofs.Tests.{unsigned, own-stays, compared-unsigned, equal-numbers}
+use Rattle.c_trees.specs.Blocks.{is_end}
+use Rattle.c_trees.proofs.Lists.{end-is}
 use Rattle.c_loops.specs.Results.{Known, Exactly, NotZero, Anything, Test, Equal, Unequal, Other, opposite}
 use Rattle.c_loops.specs.Results.{where_holds, small, constant_of, is_local, comparing, test_of, if_known, both_parts}
-use Rattle.c_loops.specs.Results.{is_constant, is_end, part_gives, gives_back, gives_each_back}
+use Rattle.c_loops.specs.Results.{is_constant, part_gives, gives_back, gives_each_back}
 use Rattle.c_loops.proofs.Locals.{type-is}
 
 -- both of two tests
@@ -111,11 +113,6 @@ holds-known r Anything (Unequal j) f a p h = (cond (nat_eq j 0) NotZero Anything
     at true e = grind (arith, nat_tests)
     at false e = refl
 holds-known r Anything Other f a p h = (Anything, refl, h)
-
--- no statements
-pub end-is : (b : Block) → is_end b ≡ true → b ≡ End
-end-is End e = refl
-end-is b e = absurd cc
 
 -- ---- tests
 

@@ -7,6 +7,5 @@ pub mod Turning
 pub mod Looping
 pub mod Runs
 pub mod Lists
-pub mod ReadLemmas
-pub mod WriteLemmas
+pub mod OneTurn
 pub mod Whole

@@ -4,15 +4,13 @@ use Rattle.std.proofs.Common.{◌∷◌, ◌++◌}
 use Rattle.std.proofs.Common.{length, refl, sym, ap, ◌∙◌, arith}
 use Rattle.std.specs.List.{list_all}
 use Rattle.std.proofs.lemmas.Bool.Decides.{nat_tests}
-use Rattle.std.proofs.lemmas.List.{append-nil, append_assoc}
-use Rattle.c_subset.specs.Lines.{Else, else_lines, lines_of}
 use Rattle.c_subset.specs.Running.{same_type}
 use Rattle.c_subset.specs.Trees.{CExpr, Block, End, If}
 use Rattle.c_subset.specs.declared.trees.CType.{CType}
 use Rattle.c_functions.specs.Plans.{word}
-use Rattle.c_loops.specs.Results.{is_local, is_end}
+use Rattle.c_trees.specs.Blocks.{is_end}
+use Rattle.c_loops.specs.Results.{is_local}
 use Rattle.c_loops.specs.Loops.{are_locals, are_words, is_some_of, leads_back, rests, again}
-use Rattle.c_loops.specs.Writing.{else_line}
 use Rattle.c_loops.proofs.Giving.{both-true}
 
 pub and-true : (b : Bool) → (b && true) ≡ b
@@ -46,18 +44,6 @@ some-if false xs ys = refl
 
 pub ruleset lists = (and-true, all-append, some-append, all-if, some-if)
 
--- statements that aren't none have a line
-pub else-is : (b : Block) → is_end b ≡ false → else_lines (lines_of b) ≡ Else ∷ lines_of b
-unfolding lines_of
-else-is End e = absurd cc
-else-is b e = refl
-
--- an empty second part has no line
-pub else-none : (b : Block) → is_end b ≡ true → else_lines (lines_of b) ≡ []
-unfolding lines_of
-else-none End e = refl
-else-none b e = absurd cc
-
 -- an `if` stays one in a turn
 pub if-again : (p : ℕ) (e : CExpr) (a b rest : Block) → is_end (again p (If e a b rest)) ≡ false
 unfolding again
@@ -68,14 +54,6 @@ if-again p e a b rest = at (leads_back p (rests p a) a b)
     at false = refl
 
 pub ruleset again_if = (if-again)
-
--- the line of an `else` and the lines after it
-pub else-on : (b : Block) → else_line (is_end b) ++ lines_of b ≡ else_lines (lines_of b)
-unfolding lines_of else_line
-else-on End = refl
-else-on b = refl
-
-pub ruleset writes = (append_assoc, append-nil)
 
 -- the parameters are five
 locals-size : (es : List CExpr) (i : ℕ) → are_locals i es ≡ true → i + length es ≡ 5

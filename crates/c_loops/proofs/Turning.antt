@@ -11,12 +11,14 @@ use Rattle.c_subset.specs.Meaning.{Locals, meaning}
 use Rattle.c_subset.specs.Running.{Outcome, Falls, Returns, Starves, GoesWrong, with_value, and_on, with_local}
 use Rattle.c_subset.specs.Running.{brought_to, with_field, with_element, Calls, with_values, called, selected, turns}
 use Rattle.c_subset.specs.Running.{outcome}
-use Rattle.c_loops.specs.Results.{Known, is_end, gives_each_back}
+use Rattle.c_trees.specs.Blocks.{is_end}
+use Rattle.c_loops.specs.Results.{Known, gives_each_back}
 use Rattle.c_loops.specs.Loops.{hands_on, is_some_of, ends, leads_back, rests, again}
 use Rattle.c_loops.proofs.Locals.{Fits, put-fits, Clearer, means-more, brought-more, brought-from}
 use Rattle.c_loops.proofs.Keeping.{Keeps, ReturnsAlike, value-both, called-both, values-both, selected-both}
 use Rattle.c_loops.proofs.Keeping.{cond-keeps, turns-keep, outcome-keeps}
-use Rattle.c_loops.proofs.Giving.{both-true, end-is}
+use Rattle.c_loops.proofs.Giving.{both-true}
+use Rattle.c_trees.proofs.Lists.{end-is}
 use Rattle.c_loops.proofs.Handing.{IsResult, Handed, ComesBack, comes-back}
 use Rattle.c_loops.proofs.Returning.{one-back, part-all, rest-all}
 

@@ -8,9 +8,7 @@ use Rattle.c_subset.specs.declared.trees.CType.{CType}
 use Rattle.c_subset.specs.declared.trees.Function as declared_function
 use Rattle.c_subset.specs.declared.trees.Line as declared_line
 use Rattle.c_subset.specs.Lines.{line_of, lines_in, lines_of, IsFunction}
-use Rattle.c_loops.specs.Reading.{statements_of}
 use Rattle.c_loops.specs.Loops.{turned, may_loop, looped}
-use Rattle.c_loops.proofs.ReadLemmas.{read-whole}
 
 -- a function has the types and as many lines as its lines say
 may-same : (f : declared_function.Function) (g : Function) → IsFunction f g
@@ -32,13 +30,13 @@ plain-is f g p none h =
 
 -- another has the lines of its body, as a loop where it may be one
 pub loop-is : (f : declared_function.Function) (ls : Items declared_line.Line) (g : Function) (p : ℕ) (b : Block)
-    → b ≡ statements_of (lines_in (items_of f.lines))
+    → ((a : Block) → lines_in (items_of f.lines) ≡ lines_of a → b ≡ a)
     → may_loop f.result (items_of f.parameters) (length (items_of f.lines)) ≡ true
     → lines_in (items_of ls) ≡ lines_of (turned p b) → IsFunction f g
     → IsFunction (record f { lines = ls }) (looped p g)
 loop-is f ls g p b is may made h =
     at (may_loop g.result g.parameters (length (lines_of g.body))) (sym (may-same f g h) ∙ may)
-    (is ∙ ap statements_of h.lines ∙ read-whole g.body)
+    (is g.body h.lines)
   where
     at : (a : Bool) → a ≡ true → b ≡ g.body
         → IsFunction (record f { lines = ls }) (cond a (record g { body = turned p g.body }) g)

@@ -1,5 +1,2 @@
 pub mod Results
 pub mod Loops
-pub mod Blocks
-pub mod Reading
-pub mod Writing

@@ -10,7 +10,8 @@ use Rattle.c_subset.specs.Lines.{lines_of}
 use Rattle.c_subset.specs.Running.{same_type}
 use Rattle.c_functions.specs.Plans.{word}
 use Rattle.c_loops.specs.Results.{Known, Exactly, Anything, Test, opposite, where_holds, constant_of}
-use Rattle.c_loops.specs.Results.{is_local, is_end, test_of, gives_each_back}
+use Rattle.c_trees.specs.Blocks.{is_end}
+use Rattle.c_loops.specs.Results.{is_local, test_of, gives_each_back}
 use Rattle.c_loops.specs.declared.functions.TheConstants.{MOST_LINES}
 
 -- ---- calls that hand on

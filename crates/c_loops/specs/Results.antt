@@ -10,6 +10,7 @@ use Rattle.c_subset.specs.Trees.{Both, Either, Choose}
 use Rattle.c_subset.specs.Trees.{Block, End, Set, Store, StoreAt, Call, Select, If, While, Return}
 use Rattle.c_subset.specs.Running.{same_type}
 use Rattle.c_functions.specs.Plans.{word}
+use Rattle.c_trees.specs.Blocks.{is_end}
 -- ---- what is known of a result
 
 -- what is known of a result, as the code declares it: it is this number, it isn't 0, or nothing is known
@@ -132,18 +133,6 @@ is_constant None v = false
 -- an expression is the last result, of which that is known
 abbrev pub is_result : CExpr → Known → Bool
 is_result e v = is_local 4 e || is_constant (constant_of e) v
-
--- no statements
-abbrev pub is_end : Block → Bool
-is_end End = true
-is_end (Set t i e rest) = false
-is_end (Store f e rest) = false
-is_end (StoreAt a i e rest) = false
-is_end (Call t i f args rest) = false
-is_end (Select t i e cases args rest) = false
-is_end (If e a b rest) = false
-is_end (While e a rest) = false
-is_end (Return e) = false
 
 -- a part does, or what comes after it where the part is empty
 abbrev pub part_gives : Bool → (Known → Bool) → (Known → Bool) → Known → Bool

@@ -2,31 +2,14 @@
 ghost use Rattle.std.specs.Prelude.{◌≡◌, true};
 ghost use Rattle.std.specs.List.{list_all};
 ghost use Rattle.c_subset.specs.Lines.{expr_of};
-ghost use Rattle.c_loops.specs.Blocks.{block_of};
+ghost use Rattle.c_trees.specs.Blocks.{block_of};
 ghost use Rattle.c_loops.specs.Loops as spec;
 ghost use Rattle.c_loops.specs.Results as results;
 
 use crate::expressions::{constant_of, hands_on, is_local, test_of};
 use crate::known::{Known, Test, opposite, where_holds};
-use crate::trees::Tree;
 use c_subset::CExpr;
-
-/// Whether there are no statements.
-pub fn is_end(tree: &Tree) -> bool
-    ensures { result ≡ results.is_end (block_of tree.now) }
-{
-    match tree {
-        Tree::End => true,
-        Tree::Set(..)
-        | Tree::Store(..)
-        | Tree::StoreAt(..)
-        | Tree::Call(..)
-        | Tree::Select(..)
-        | Tree::If(..)
-        | Tree::While(..)
-        | Tree::Return(..) => false,
-    }
-}
+use c_trees::{Tree, is_end};
 
 /// Whether the result is this constant.
 fn is_constant(constant: Option<u32>, known: Known) -> bool

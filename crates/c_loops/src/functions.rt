@@ -3,18 +3,15 @@ ghost use Rattle.std.specs.Prelude.{◌≡◌, IfOk, length};
 ghost use Rattle.flow_base.specs.Lists.{items_of};
 ghost use Rattle.c_subset.specs.Trees as c;
 ghost use Rattle.c_subset.specs.Lines.{IsFunction, lines_in, lines_of};
-ghost use Rattle.c_loops.specs.Blocks.{block_of};
+ghost use Rattle.c_trees.specs.Blocks.{block_of};
 ghost use Rattle.c_loops.specs.Loops as spec;
 ghost use Rattle.c_loops.specs.Loops.{looped};
-ghost use Rattle.c_loops.specs.Reading.{statements_of};
 
 use crate::deciding::loops;
 use crate::expressions::is_word;
-use crate::reading::{Stack, boxed, read_lines};
-use crate::trees::Tree;
 use crate::turns::write_again_after;
-use crate::writing::{put, write};
 use c_subset::{CExpr, CType, Function, Line};
+use c_trees::{Tree, lines_of_tree, put, tree_of};
 use flow_base::{List, Memory};
 use std::alloc::Global;
 
@@ -44,28 +41,8 @@ fn may_loop(function: &Function) -> bool
         && function.lines.items().len() <= MOST_LINES
 }
 
-/// The lines as statements.
-fn tree_of(alloc: Global, lines: List<Line>) -> Result<Box<Tree>, Memory>
-    ensures { IfOk result (λ tree.
-        block_of tree.value ≡ statements_of (lines_in (items_of lines))) }
-{
-    match read_lines(alloc, lines.into_items())? {
-        Stack::Empty => boxed(alloc, Tree::End),
-        Stack::Top(tree, _, _) => Ok(tree),
-    }
-}
-
-/// The lines of the statements.
-fn lines_of_tree(alloc: Global, tree: Box<Tree>) -> Result<List<Line>, Memory>
-    ensures { IfOk result (λ made. lines_in (items_of made) ≡ lines_of (block_of tree.value)) }
-{
-    let mut made = List::of(Vec::new(alloc));
-    write(Box::into_inner(tree), &mut made)?;
-    Ok(made)
-}
-
 /// The lines of the loop whose turns are these statements.
-#[tactic(auto, using(crate::proofs::Lists::writes), unfolding(c_subset::specs::Lines::lines_of))]
+#[tactic(auto, using(c_trees::proofs::Lists::writes), unfolding(c_subset::specs::Lines::lines_of))]
 fn lines_of_loop(alloc: Global, number: u32, tree: Box<Tree>) -> Result<List<Line>, Memory>
     ensures { IfOk result (λ made. lines_in (items_of made)
         ≡ lines_of (spec.forever (spec.again number (block_of tree.value)))) }

@@ -9,10 +9,7 @@ mod expressions;
 mod functions;
 mod known;
 mod laws;
-mod reading;
-mod trees;
 mod turns;
-mod writing;
 
 pub use functions::with_loop;
 pub use laws::loops_run_as_calls;

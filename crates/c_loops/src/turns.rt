@@ -2,21 +2,19 @@
 ghost use Rattle.std.specs.Prelude.{◌≡◌, ◌++◌, ◌∷◌, OnOk};
 ghost use Rattle.flow_base.specs.Lists.{items_of};
 ghost use Rattle.c_subset.specs.Lines.{else_lines, line_of, lines_in, lines_of};
-ghost use Rattle.c_loops.specs.Blocks.{block_of};
+ghost use Rattle.c_trees.specs.Blocks.{block_of, is_end};
 ghost use Rattle.c_loops.specs.Loops.{again};
-ghost use Rattle.c_loops.specs.Results as results;
 
 use crate::deciding::leads_back;
 use crate::expressions::hands_on;
-use crate::trees::Tree;
-use crate::writing::{put, put_else, write_after, write_second};
 use c_subset::Line;
+use c_trees::{Tree, put, put_else, write_after, write_second};
 use flow_base::{List, Memory};
 
 /// Whether nothing is left of the statements in a turn.
 #[tactic(auto, using(crate::proofs::Lists::again_if), unfolding(crate::specs::Loops::again))]
 fn is_end_again(number: u32, tree: &Tree) -> bool
-    ensures { result ≡ results.is_end (again number (block_of tree.now)) }
+    ensures { result ≡ is_end (again number (block_of tree.now)) }
 {
     match tree {
         Tree::End => true,

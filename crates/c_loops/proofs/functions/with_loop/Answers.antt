@@ -1,5 +1,5 @@
 use Rattle.std.proofs.Common.{sym, ◌∙◌}
-use Rattle.c_loops.specs.Blocks.{block_of}
+use Rattle.c_trees.specs.Blocks.{block_of}
 use Rattle.c_loops.proofs.Whole.{plain-is, loop-is}
 use Rattle.c_loops.proofs.functions.with_loop.Goals as goal
 

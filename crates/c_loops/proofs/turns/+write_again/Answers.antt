@@ -3,12 +3,12 @@ use Rattle.std.proofs.lemmas.List.{append-nil}
 use Rattle.flow_base.specs.Lists.{items_of}
 use Rattle.c_subset.specs.Trees.{End}
 use Rattle.c_subset.specs.Lines.{expr_of, exprs_of, line_of, lines_in, lines_of, else_lines}
-use Rattle.c_loops.specs.Blocks.{block_of}
+use Rattle.c_trees.specs.Blocks.{block_of}
 use Rattle.c_loops.specs.Loops.{again}
-use Rattle.c_loops.specs.Writing.{else_line}
-use Rattle.c_loops.proofs.Lists.{else-on}
-use Rattle.c_loops.proofs.WriteLemmas.{on-written, if-written, while-written, again-ends, again-calls, again-leads}
-use Rattle.c_loops.proofs.WriteLemmas.{again-stays}
+use Rattle.c_trees.specs.Writing.{else_line}
+use Rattle.c_trees.proofs.Lists.{else-on}
+use Rattle.c_trees.proofs.WriteLemmas.{on-written, if-written, while-written}
+use Rattle.c_loops.proofs.OneTurn.{again-ends, again-calls, again-leads, again-stays}
 use Rattle.c_loops.proofs.turns.+write_again.Goals as goal
 
 -- ---- statements without parts

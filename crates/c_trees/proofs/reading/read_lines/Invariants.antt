@@ -1,8 +1,8 @@
 use Rattle.std.proofs.Common.{◌≡◌, [], ◌∷◌, length, false}
 use Rattle.c_subset.specs.Trees as c
 use Rattle.c_subset.specs.Lines.{lines_in}
-use Rattle.c_loops.specs.Reading.{opens_of, read_lines}
-use Rattle.c_loops.proofs.reading.read_lines.Given as goal
+use Rattle.c_trees.specs.Reading.{opens_of, read_lines}
+use Rattle.c_trees.proofs.reading.read_lines.Given as goal
 
 -- the lines that are left, before those that were read
 abbrev pub invariant-lines : goal.invariant-lines

@@ -3,9 +3,9 @@ use Rattle.std.specs.Prelude.{Bool, true, false, List, [], ◌∷◌, if◌then�
 use Rattle.c_subset.specs.Trees.{CExpr, Block}
 use Rattle.c_subset.specs.Trees as c
 use Rattle.c_subset.specs.Lines.{Line, Set, Store, StoreAt, Call, Select, If, Else, While, Close, Return}
-use Rattle.c_loops.specs.declared.reading.Stack.{Stack}
-use Rattle.c_loops.specs.declared.reading.Stack.TheVariants as stacks
-use Rattle.c_loops.specs.Blocks.{block_of}
+use Rattle.c_trees.specs.declared.reading.Stack.{Stack}
+use Rattle.c_trees.specs.declared.reading.Stack.TheVariants as stacks
+use Rattle.c_trees.specs.Blocks.{block_of}
 
 -- what is read of a block, and whether it is the first part of an `if` with a second one
 pub record Open : Type 0 where

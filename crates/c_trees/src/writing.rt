@@ -1,14 +1,32 @@
 //! Trees as lines.
-ghost use Rattle.std.specs.Prelude.{◌≡◌, ◌++◌, ◌∷◌, [], OnOk};
+ghost use Rattle.std.specs.Prelude.{◌≡◌, ◌++◌, ◌∷◌, [], IfOk, OnOk};
 ghost use Rattle.flow_base.specs.Lists.{items_of};
 ghost use Rattle.c_subset.specs.Lines.{else_lines, line_of, lines_in, lines_of};
-ghost use Rattle.c_loops.specs.Blocks.{block_of};
-ghost use Rattle.c_loops.specs.Writing.{else_line};
+ghost use Rattle.c_trees.specs.Blocks as spec;
+ghost use Rattle.c_trees.specs.Blocks.{block_of};
+ghost use Rattle.c_trees.specs.Writing.{else_line};
 
-use crate::deciding::is_end;
 use crate::trees::Tree;
 use c_subset::Line;
 use flow_base::{List, Memory};
+use std::alloc::Global;
+
+/// Whether there are no statements.
+pub fn is_end(tree: &Tree) -> bool
+    ensures { result ≡ spec.is_end (block_of tree.now) }
+{
+    match tree {
+        Tree::End => true,
+        Tree::Set(..)
+        | Tree::Store(..)
+        | Tree::StoreAt(..)
+        | Tree::Call(..)
+        | Tree::Select(..)
+        | Tree::If(..)
+        | Tree::While(..)
+        | Tree::Return(..) => false,
+    }
+}
 
 /// Appends a line.
 pub fn put(lines: &mut List<Line>, line: Line) -> Result<(), Memory>
@@ -80,4 +98,13 @@ pub fn write(tree: Tree, lines: &mut List<Line>) -> Result<(), Memory>
         }
         Tree::Return(expr) => put(lines, Line::Return(expr)),
     }
+}
+
+/// The lines of the statements.
+pub fn lines_of_tree(alloc: Global, tree: Box<Tree>) -> Result<List<Line>, Memory>
+    ensures { IfOk result (λ made. lines_in (items_of made) ≡ lines_of (block_of tree.value)) }
+{
+    let mut made = List::of(Vec::new(alloc));
+    write(Box::into_inner(tree), &mut made)?;
+    Ok(made)
 }

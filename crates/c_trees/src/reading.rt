@@ -3,20 +3,21 @@
 //! An expression or a line of which nothing is made goes to `drop` by name: a single drop at the
 //! end of a scope would be written out for each of its variants, and make the proof long.
 ghost use Rattle.std.specs.Prelude.{◌≡◌, ◌∷◌, [], IfOk, false};
-ghost use Rattle.c_subset.specs.Lines.{expr_of, line_of, lines_in};
+ghost use Rattle.flow_base.specs.Lists.{items_of};
+ghost use Rattle.c_subset.specs.Lines.{expr_of, line_of, lines_in, lines_of};
 ghost use Rattle.c_subset.specs.Trees as c;
-ghost use Rattle.c_loops.specs.Blocks.{block_of};
-ghost use Rattle.c_loops.specs.Reading as spec;
-ghost use Rattle.c_loops.specs.Reading.{opens_of};
+ghost use Rattle.c_trees.specs.Blocks.{block_of};
+ghost use Rattle.c_trees.specs.Reading as spec;
+ghost use Rattle.c_trees.specs.Reading.{opens_of};
 
 use crate::trees::Tree;
 use c_subset::{CExpr, Line};
-use flow_base::Memory;
+use flow_base::{List, Memory};
 use std::alloc::Global;
 
 /// What is read of each block that is open, the innermost first.
 #[derive(Drop)]
-pub enum Stack {
+enum Stack {
     /// No block is open.
     Empty,
     /// A block, whether it is the first part of an `if` with a second one, and those around it.
@@ -208,7 +209,7 @@ fn read_line(alloc: Global, line: Line, stack: Stack) -> Result<Stack, Memory>
 
 /// The lines, read.
 #[tactic(auto, unfolding(crate::specs::Reading::read_lines))]
-pub fn read_lines(alloc: Global, lines: Vec<Line>) -> Result<Stack, Memory>
+fn read_lines(alloc: Global, lines: Vec<Line>) -> Result<Stack, Memory>
     ensures { IfOk result (λ stack. opens_of stack ≡ spec.read_lines (lines_in lines.items)
         (record { block = c.End; has_else = false } ∷ [])) }
 {
@@ -218,4 +219,15 @@ pub fn read_lines(alloc: Global, lines: Vec<Line>) -> Result<Stack, Memory>
         stack = read_line(alloc, line, stack)?;
     }
     Ok(stack)
+}
+
+/// The statements of which these are the lines.
+pub fn tree_of(alloc: Global, lines: List<Line>) -> Result<Box<Tree>, Memory>
+    ensures { IfOk result (λ tree. (b : c.Block) → lines_in (items_of lines) ≡ lines_of b
+        → block_of tree.value ≡ b) }
+{
+    match read_lines(alloc, lines.into_items())? {
+        Stack::Empty => boxed(alloc, Tree::End),
+        Stack::Top(tree, _, _) => Ok(tree),
+    }
 }

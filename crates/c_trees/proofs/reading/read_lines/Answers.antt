@@ -1,9 +1,9 @@
 use Rattle.std.proofs.Common.{[], ◌∷◌, map, sym, ap, ◌∙◌}
 use Rattle.std.proofs.lemmas.List.{map-append}
 use Rattle.c_subset.specs.Lines.{line_of, lines_in}
-use Rattle.c_loops.specs.Reading.{opens_of, read_lines}
-use Rattle.c_loops.proofs.ReadLemmas.{read-last}
-use Rattle.c_loops.proofs.reading.read_lines.Goals as goal
+use Rattle.c_trees.specs.Reading.{opens_of, read_lines}
+use Rattle.c_trees.proofs.ReadLemmas.{read-last}
+use Rattle.c_trees.proofs.reading.read_lines.Goals as goal
 
 pub lines-preserved : goal.lines-preserved
 lines-preserved c =

@@ -5,10 +5,9 @@ use Rattle.c_subset.specs.Trees.{Block}
 use Rattle.c_subset.specs.Trees as c
 use Rattle.c_subset.specs.Lines.{Line, Set, Store, StoreAt, Call, Select, If, Else, While, Close, Return, else_lines}
 use Rattle.c_subset.specs.Lines.{lines_of}
-use Rattle.c_loops.specs.Results.{is_end}
-use Rattle.c_loops.specs.Reading.{Open, read_line, read_lines, innermost, statements_of}
-use Rattle.c_loops.proofs.Giving.{end-is}
-use Rattle.c_loops.proofs.Lists.{else-is, else-none}
+use Rattle.c_trees.specs.Blocks.{is_end}
+use Rattle.c_trees.specs.Reading.{Open, read_line, read_lines, innermost, statements_of}
+use Rattle.c_trees.proofs.Lists.{end-is, else-is, else-none}
 
 -- the last line is read first
 pub read-last : (ls : List Line) (l : Line) (opens : List Open)
@@ -85,3 +84,8 @@ reads-all b opens ls e =
 -- so lines are read as the statements whose lines they are
 pub read-whole : (b : Block) → statements_of (lines_of b) ≡ b
 read-whole b = ap innermost (reads-all b [] (lines_of b) refl)
+
+-- what is read of the innermost block, where these are all lines
+pub read-is : (b : Block) (ls : List Line) (opens : List Open) → opens ≡ read_lines ls (so_far c.End false ∷ [])
+    → ls ≡ lines_of b → innermost opens ≡ b
+read-is b ls opens e h = ap innermost (e ∙ reads-all b [] ls h)

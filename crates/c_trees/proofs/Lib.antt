@@ -1,0 +1,3 @@
+pub mod Lists
+pub mod ReadLemmas
+pub mod WriteLemmas

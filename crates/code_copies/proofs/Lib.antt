@@ -1,6 +1,5 @@
 pub mod RootLemmas
 pub mod FactLemmas
-pub mod Pairs
 pub mod Lockstep
 pub mod Endings
 pub mod RootedStarts

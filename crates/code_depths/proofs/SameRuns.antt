@@ -9,17 +9,18 @@ use Rattle.actions.specs.Changes.{paid_in}
 use Rattle.actions.specs.Runs.{Moment, EventWithInputs}
 use Rattle.actions.specs.World.{World}
 use Rattle.actions.specs.Work.{Now}
-use Rattle.actions.proofs.RunLemmas.{Runs-along}
 use Rattle.code_language.specs.Code.{Code, fetch}
 use Rattle.code_language.specs.Instrs.{Instr, Assign, Emit, Mark, Clear, Keep, Unless, Skip, Call, Visit, Send, SendTo}
 use Rattle.code_language.specs.Instrs.{Play, Home, Begin, Pass, Ret}
 use Rattle.code_language.specs.Machine.{Program, Frame, CodeState, noted, later}
 use Rattle.code_language.specs.Machine.{sent, Next, Goes, Stops, if_ok, if_deep}
 use Rattle.code_language.specs.Machine.{play_next, act, act_on, step, and_then, run}
-use Rattle.code_language.specs.Reactions.{Leads, program_of, start_machine, react_machine, Starts, Reacts, CodeRun}
+use Rattle.code_language.specs.Reactions.{program_of, start_machine, react_machine, CodeRun}
 use Rattle.code_language.specs.WellFormed.{IsCode}
 use Rattle.code_shrink.specs.RunsAlike.{with_names}
+use Rattle.code_shrink.proofs.Endings.{same_runs}
 use Rattle.code_shrink.proofs.RunsAlike.{alike_itself, alike_runs}
+use Rattle.code_shrink.proofs.Simulation.{LeadAlike}
 use Rattle.code_depths.specs.Depths.{level_of, AreLevels, instead, led, cut_code, IsCut, AsItWas, ByLevels}
 use Rattle.code_depths.specs.Depths.{HasSameRunsUnder}
 use Rattle.code_depths.proofs.Cuts.{fetch_cut}
@@ -109,65 +110,24 @@ module _ (k : Code) (b : Bounds) (levels : List ℕ) (q : ℕ) (ok : AreLevels l
       ap (λ o. and_then o (run C' n)) (act_on_same m.world m.now m.result m.frames low)
       ∙ rest_same n (step C m) (step_stays levels C ok m low) (λ m' h. run_same n m' h)
 
-  -- so the code that was cut leads where the code does
-  cut_leads : (m : CodeState) (moment : Moment) → IsShallow levels m → Leads C m moment → Leads C' m moment
-  cut_leads m moment low h = record { steps = h.steps; ends = run_same h.steps m low ∙ h.ends }
+  -- so both lead to the same moments
+  leads_alike : (m : CodeState) → IsShallow levels m → LeadAlike C C' m m
+  leads_alike m low = record {
+    on = λ moment h. record { steps = h.steps; ends = run_same h.steps m low ∙ h.ends };
+    back = λ moment h. record { steps = h.steps; ends = sym (run_same h.steps m low) ∙ h.ends };
+  }
 
-  -- and the other way round
-  code_leads : (m : CodeState) (moment : Moment) → IsShallow levels m → Leads C' m moment → Leads C m moment
-  code_leads m moment low h = record { steps = h.steps; ends = sym (run_same h.steps m low) ∙ h.ends }
-
-  -- a start begins with a procedure of level 0
-  start_low : IsShallow levels (start_machine k)
-  start_low = first_shallow levels k.procedures.start 0 ok.start
-
-  -- and so does a reaction
-  react_low : (w : World) (given : EventWithInputs) → IsShallow levels (react_machine k w given.event)
-  react_low w given = first_shallow levels k.procedures.react 0 ok.react
-
-  -- a run of the code is one of the code that was cut
-  cut_run : (events : List EventWithInputs) (moments : List Moment) → CodeRun k b events moments
-      → CodeRun cut b events moments
-  cut_run events moments h =
-      Runs-along (λ w. Unit {0}) (Starts k b) (Starts cut b) (Reacts k b) (Reacts cut b)
-      (λ w x starts. (cut_leads (start_machine k) (record { world = w; fault = x }) start_low starts, tt))
-      (λ given w w' x here reacts. (
-        (
-          reacts.0,
-          reacts.1,
-          cut_leads (react_machine k reacts.0 given.event) (record { world = w'; fault = x })
-              (react_low reacts.0 given) reacts.2,
-        ),
-        tt,
-      )) events moments h
-
-  -- and the other way round
-  code_run : (events : List EventWithInputs) (moments : List Moment) → CodeRun cut b events moments
-      → CodeRun k b events moments
-  code_run events moments h =
-      Runs-along (λ w. Unit {0}) (Starts cut b) (Starts k b) (Reacts cut b) (Reacts k b)
-      (λ w x starts. (code_leads (start_machine k) (record { world = w; fault = x }) start_low starts, tt))
-      (λ given w w' x here reacts. (
-        (
-          reacts.0,
-          reacts.1,
-          code_leads (react_machine k reacts.0 given.event) (record { world = w'; fault = x })
-              (react_low reacts.0 given) reacts.2,
-        ),
-        tt,
-      )) events moments h
-
--- both run alike
+-- both run alike: a start and a reaction begin with procedures of level 0
 by_levels : (k : Code) (b : Bounds) (levels : List ℕ) (q : ℕ) → AreLevels levels k.procedures
     → IsCode (cut_code b.depth levels q k) → HasSameRunsUnder b k (cut_code b.depth levels q k)
 by_levels k b levels q ok well = record {
   well_formed = well;
   tree = refl;
   names = refl;
-  runs = λ names events moments. (
-    cut_run (with_names names k) b levels q ok events moments,
-    code_run (with_names names k) b levels q ok events moments,
-  );
+  runs = same_runs b k (cut_code b.depth levels q k)
+      (λ names. leads_alike k b levels q ok (start_machine (with_names names k))
+      (first_shallow levels k.procedures.start 0 ok.start))
+      (λ w e. leads_alike k b levels q ok (react_machine k w e) (first_shallow levels k.procedures.react 0 ok.react));
 }
 
 -- code has its own runs

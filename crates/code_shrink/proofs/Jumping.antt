@@ -23,12 +23,12 @@ pub jumped : (C : Program) (f : Frame) (xs after : List Instr) → Slides xs aft
 unfolding holds
 jumped C f xs after (Skips j rest) e = record {
   to = f.place + 1 + j;
-  there = further (instructions C.procedures f.proc) f.place j (Skip j) rest e;
+  there = further (instructions C.procedures f.proc) f.place j e;
   by = λ w now r fs. ap (λ o. act C o w now r f fs) (stands C.procedures f.proc f.place (Skip j ∷ rest) e);
 }
 jumped C f xs after (Holds j x rest always) e = record {
   to = f.place + 1;
-  there = onward (instructions C.procedures f.proc) f.place (Unless j (Test x)) rest e;
+  there = onward (instructions C.procedures f.proc) f.place e;
   by = λ w now r fs.
       ap (λ o. act C o w now r f fs) (stands C.procedures f.proc f.place (Unless j (Test x) ∷ rest) e)
       ∙ ap (λ o. test_next o w (Goes (machine w now r (next f ∷ fs))) (Goes (machine w now r (past f j ∷ fs))))
@@ -36,7 +36,7 @@ jumped C f xs after (Holds j x rest always) e = record {
 }
 jumped C f xs after (Fails j x rest always) e = record {
   to = f.place + 1 + j;
-  there = further (instructions C.procedures f.proc) f.place j (Unless j (Test x)) rest e;
+  there = further (instructions C.procedures f.proc) f.place j e;
   by = λ w now r fs.
       ap (λ o. act C o w now r f fs) (stands C.procedures f.proc f.place (Unless j (Test x) ∷ rest) e)
       ∙ ap (λ o. test_next o w (Goes (machine w now r (next f ∷ fs))) (Goes (machine w now r (past f j ∷ fs))))

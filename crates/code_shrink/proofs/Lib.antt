@@ -1,4 +1,5 @@
 pub mod Closed
+pub mod Simulation
 pub mod Pairs
 pub mod Jumping
 pub mod Lockstep

@@ -1,59 +1,77 @@
--- Frames of code beside frames of its copy.
+-- Frames of code beside frames of its copy, and what stands at a place.
 use Rattle.std.proofs.Common.{◌≡◌, ℕ, zero, suc, ◌+◌, Bool, true, false, List, [], ◌∷◌, length, drop, Option, Some}
-use Rattle.std.proofs.Common.{None}
-use Rattle.std.proofs.Common.{refl, ap, ◌∙◌, arith}
+use Rattle.std.proofs.Common.{None, refl, sym, ap, subst, ◌∙◌, arith}
 use Rattle.std.specs.Prelude.{slice_get, nat_lt, if◌then◌else◌}
+use Rattle.actions.specs.World.{World}
+use Rattle.actions.specs.Work.{Now}
 use Rattle.code_language.specs.Code.{Procedures, instructions, fetch}
 use Rattle.code_language.specs.Instrs.{Instr}
-use Rattle.code_language.specs.Machine.{Frame, noted, or_this}
-use Rattle.code_shrink.specs.Follows.{note_by, NoteIn, Follows}
+use Rattle.code_language.specs.Machine.{Program, Frame, machine, noted, or_this, now_after, act, step}
 
--- a frame, and the procedure and the place of the copy's frame
-pub record Pair : Type 0 where
-  pub frame : Frame
-  pub proc : ℕ
-  pub place : ℕ
+-- ---- frames
 
--- a frame at a place of a procedure, with a note
-abbrev pub moved : Frame → ℕ → ℕ → Option ℕ → Frame
-moved f p i tag = record f { proc = p; place = i; note = tag }
+-- the frame of the copy: another procedure with its place, and its note and base
+abbrev pub twin : Frame → ℕ → ℕ → Option ℕ → ℕ → Frame
+twin f p i tag base = record f { proc = p; place = i; note = tag; base = base }
 
--- the frame of the code
-abbrev pub left : Pair → Frame
-left q = q.frame
-
--- the frame of the copy
-abbrev pub right : (ℕ → ℕ) → Pair → Frame
-right m q = moved q.frame q.proc q.place (note_by m q.frame.note)
-
--- the pair at other places
-abbrev pub put_at : Pair → ℕ → ℕ → Pair
-put_at q i i' = record { frame = record q.frame { place = i }; proc = q.proc; place = i' }
-
--- the frames of the code
-abbrev pub lefts : List Pair → List Frame
-lefts [] = []
-lefts (q ∷ qs) = left q ∷ lefts qs
-
--- the frames of the copy
-abbrev pub rights : (ℕ → ℕ) → List Pair → List Frame
-rights m [] = []
-rights m (q ∷ qs) = right m q ∷ rights m qs
-
--- at their places the copy does what the code does, and the note is copied
-pub record Good (R : ℕ → Bool) (m : ℕ → ℕ) (k k' : Procedures) (q : Pair) : Type 0 where
-  pub code : Follows R m (drop q.frame.place (instructions k q.frame.proc)) (drop q.place (instructions k' q.proc))
-  pub note : NoteIn R q.frame.note
-
--- all of them are such
-abbrev pub AreGood : (ℕ → Bool) → (ℕ → ℕ) → Procedures → Procedures → List Pair → Type 0
-AreGood R m k k' [] = Unit {0}
-AreGood R m k k' (q ∷ qs) = Good R m k k' q × AreGood R m k k' qs
+-- Frames of the code and of the copy, pair by pair, each with what is current there: of both G holds, which the frame
+-- and the procedure, the place and the note of its twin determine.
+pub data Paired (G : Now → Frame → ℕ → ℕ → Option ℕ → Type 0) : Now → List Frame → List Frame → Type 0 where
+  End : {now : Now} → Paired G now [] []
+  Both : {now : Now} {f : Frame} {p i base : ℕ} {tag : Option ℕ} {fs fs' : List Frame} → G now f p i tag
+      → base ≡ f.base → Paired G (now_after f.saved now) fs fs'
+      → Paired G now (f ∷ fs) (twin f p i tag base ∷ fs')
 
 -- both sides have as many frames
-pub same_length : (m : ℕ → ℕ) (qs : List Pair) → length (rights m qs) ≡ length (lefts qs)
-same_length m [] = refl
-same_length m (q ∷ qs) = ap suc (same_length m qs)
+pub same_length : {G : Now → Frame → ℕ → ℕ → Option ℕ → Type 0} {now : Now} {fs fs' : List Frame}
+    → Paired G now fs fs' → length fs' ≡ length fs
+same_length End = refl
+same_length (Both g same under) = ap suc (same_length under)
+
+-- pairs stay paired by what stays of each
+pub paired_later : {G H : Now → Frame → ℕ → ℕ → Option ℕ → Type 0} {now : Now} {fs fs' : List Frame}
+    → ((now : Now) (f : Frame) (p i : ℕ) (tag : Option ℕ) → G now f p i tag → H now f p i tag)
+    → Paired G now fs fs' → Paired H now fs fs'
+paired_later t End = End
+paired_later t (Both {now = now} {f = f} {p = p} {i = i} {tag = tag} g same under) =
+    Both (t now f p i tag g) same (paired_later t under)
+
+-- ---- notes
+
+-- both frames have a note or none; of the procedures that are noted N holds
+pub data Notes (N : ℕ → ℕ → Type 0) : Option ℕ → Option ℕ → Type 0 where
+  Neither : Notes N None None
+  Each : {p p' : ℕ} → N p p' → Notes N (Some p) (Some p')
+
+-- both sides find a note in frames of one number, or none
+pub data Found (N : ℕ → ℕ → Type 0) : Option (ℕ × ℕ) → Option (ℕ × ℕ) → Type 0 where
+  Nowhere : Found N None None
+  There : {i p p' : ℕ} → N p p' → Found N (Some (i, p)) (Some (i, p'))
+
+module _ {N : ℕ → ℕ → Type 0} where
+  -- what was found before, else the note of this frame
+  or_found : {o o' : Option (ℕ × ℕ)} (i : ℕ) {tag tag' : Option ℕ} → Found N o o' → Notes N tag tag'
+      → Found N (or_this o i tag) (or_this o' i tag')
+  or_found i Nowhere Neither = Nowhere
+  or_found i Nowhere (Each n) = There n
+  or_found i (There n) t = There n
+
+  -- either of two
+  if_found : (b : Bool) {o o' : Option (ℕ × ℕ)} → Found N o o'
+      → Found N (if b then None else o) (if b then None else o')
+  if_found true h = Nowhere
+  if_found false h = h
+
+  -- both sides find alike
+  pub found_alike : {G : Now → Frame → ℕ → ℕ → Option ℕ → Type 0} {now : Now} {fs fs' : List Frame}
+      → ((now : Now) (f : Frame) (p i : ℕ) (tag : Option ℕ) → G now f p i tag → Notes N f.note tag) → (k : ℕ)
+      → Paired G now fs fs' → Found N (noted k fs) (noted k fs')
+  unfolding noted
+  found_alike t k End = Nowhere
+  found_alike t k (Both {now = now} {f = f} {p = p} {i = i} {tag = tag} {fs = fs} {fs' = fs'} g same under) =
+      subst (λ l. Found N (if nat_lt (length fs) k then None else or_this (noted k fs) (length fs) f.note)
+      (if nat_lt l k then None else or_this (noted k fs') l tag)) (sym (same_length under))
+      (if_found (nat_lt (length fs) k) (or_found (length fs) (found_alike t k under) (t now f p i tag g)))
 
 -- ---- what stands at a place
 
@@ -74,81 +92,26 @@ pub stands : (k : Procedures) (p i : ℕ) (xs : List Instr) → drop i (instruct
 unfolding fetch
 stands k p i xs e = at_place (instructions k p) i ∙ ap head_of e
 
+-- so this is what acts there
+pub acts_at : (C : Program) (w : World) (now : Now) (r : ℕ) (f : Frame) (fs : List Frame) {xs : List Instr}
+    → drop f.place (instructions C.procedures f.proc) ≡ xs
+    → step C (machine w now r (f ∷ fs)) ≡ act C (head_of xs) w now r f fs
+acts_at C w now r f fs {xs = xs} e = ap (λ o. act C o w now r f fs) (stands C.procedures f.proc f.place xs e)
+
 -- nothing is left of nothing
 drop_none : (k : ℕ) → drop {A = Instr} k [] ≡ []
 drop_none zero = refl
 drop_none (suc k) = refl
 
 -- so many more places on
-pub further : (is : List Instr) (i k : ℕ) (x : Instr) (rest : List Instr) → drop i is ≡ x ∷ rest
+pub further : (is : List Instr) (i k : ℕ) {x : Instr} {rest : List Instr} → drop i is ≡ x ∷ rest
     → drop (i + 1 + k) is ≡ drop k rest
-further [] i k x rest e = absurd (cc (e, drop_none i))
-further (y ∷ is) zero k x rest e =
+further [] i k e = absurd (cc (e, drop_none i))
+further (y ∷ is) zero k e =
     let n : zero + 1 + k ≡ suc k = omega arith in ap (λ j. drop j (y ∷ is)) n ∙ ap (λ l. drop k (drop 1 l)) e
-further (y ∷ is) (suc i) k x rest e =
-    let n : suc i + 1 + k ≡ suc (i + 1 + k) = omega arith in
-    ap (λ j. drop j (y ∷ is)) n ∙ further is i k x rest e
+further (y ∷ is) (suc i) k e =
+    let n : suc i + 1 + k ≡ suc (i + 1 + k) = omega arith in ap (λ j. drop j (y ∷ is)) n ∙ further is i k e
 
 -- the next place
-pub onward : (is : List Instr) (i : ℕ) (x : Instr) (rest : List Instr) → drop i is ≡ x ∷ rest
-    → drop (i + 1) is ≡ rest
-onward is i x rest e =
-    let n : i + 1 ≡ i + 1 + 0 = omega arith in ap (λ j. drop j is) n ∙ further is i 0 x rest e
-
--- ---- notes
-
--- what is found, by its new number
-abbrev pub found_by : (ℕ → ℕ) → Option (ℕ × ℕ) → Option (ℕ × ℕ)
-found_by m None = None
-found_by m (Some x) = Some (x.0, m x.1)
-
--- what is found is among these procedures
-abbrev pub FoundIn : (ℕ → Bool) → Option (ℕ × ℕ) → Type 0
-FoundIn R None = Unit {0}
-FoundIn R (Some x) = R x.1 ≡ true
-
--- the same note is found first
-or_by : (m : ℕ → ℕ) (o : Option (ℕ × ℕ)) (i : ℕ) (tag : Option ℕ)
-    → or_this (found_by m o) i (note_by m tag) ≡ found_by m (or_this o i tag)
-or_by m None i None = refl
-or_by m None i (Some p) = refl
-or_by m (Some x) i tag = refl
-
--- and its procedure is copied
-or_in : (R : ℕ → Bool) (o : Option (ℕ × ℕ)) (i : ℕ) (tag : Option ℕ) → FoundIn R o → NoteIn R tag
-    → FoundIn R (or_this o i tag)
-or_in R None i None h t = tt
-or_in R None i (Some p) h t = t
-or_in R (Some x) i tag h t = h
-
--- either of two
-if_by : (m : ℕ → ℕ) (b : Bool) (o : Option (ℕ × ℕ))
-    → (if b then None else found_by m o) ≡ found_by m (if b then None else o)
-if_by m true o = refl
-if_by m false o = refl
-
--- either of two
-if_in : (R : ℕ → Bool) (b : Bool) (o : Option (ℕ × ℕ)) → FoundIn R o → FoundIn R (if b then None else o)
-if_in R true o h = tt
-if_in R false o h = h
-
--- the copy finds the copied note
-pub same_found : (m : ℕ → ℕ) (k : ℕ) (qs : List Pair) → noted k (rights m qs) ≡ found_by m (noted k (lefts qs))
-unfolding noted
-same_found m k [] = refl
-same_found m k (q ∷ qs) =
-    ap (λ n. if nat_lt n k then None else or_this (noted k (rights m qs)) n (note_by m q.frame.note)) (same_length m qs)
-    ∙ ap (λ o. if nat_lt (length (lefts qs)) k then None else or_this o (length (lefts qs)) (note_by m q.frame.note))
-    (same_found m k qs)
-    ∙ ap (λ o. if nat_lt (length (lefts qs)) k then None else o)
-    (or_by m (noted k (lefts qs)) (length (lefts qs)) q.frame.note)
-    ∙ if_by m (nat_lt (length (lefts qs)) k) (or_this (noted k (lefts qs)) (length (lefts qs)) q.frame.note)
-
--- what is found is copied
-pub good_found : (R : ℕ → Bool) (m : ℕ → ℕ) (k k' : Procedures) (i : ℕ) (qs : List Pair) → AreGood R m k k' qs
-    → FoundIn R (noted i (lefts qs))
-unfolding noted
-good_found R m k k' i [] h = tt
-good_found R m k k' i (q ∷ qs) h =
-    if_in R (nat_lt (length (lefts qs)) i) (or_this (noted i (lefts qs)) (length (lefts qs)) q.frame.note)
-    (or_in R (noted i (lefts qs)) (length (lefts qs)) q.frame.note (good_found R m k k' i qs h.1) h.0.note)
+pub onward : (is : List Instr) (i : ℕ) {x : Instr} {rest : List Instr} → drop i is ≡ x ∷ rest → drop (i + 1) is ≡ rest
+onward is i e = let n : i + 1 ≡ i + 1 + 0 = omega arith in ap (λ j. drop j is) n ∙ further is i 0 e

@@ -7,11 +7,10 @@ use Rattle.code_language.specs.Instrs.{Instr, Assign, Emit, Mark, Clear, Keep, U
 use Rattle.code_language.specs.Instrs.{SendTo, Play, Home, Begin, Pass, Ret, Cond, Result}
 use Rattle.code_language.proofs.Sound.{or_none, instructions_at}
 use Rattle.code_shrink.specs.Follows.{renamed}
-use Rattle.code_shrink.specs.Shrunk.{IsThere, KeepsResults}
+use Rattle.code_shrink.specs.Shrunk.{KeepsResults}
 use Rattle.code_shrink.specs.Smaller.{folded, slides, threaded, straight, keeps, recounted, squeezed, smaller}
 use Rattle.code_shrink.specs.Whole.{is_live, number_in, collected, smaller_procedures, IsExact}
 use Rattle.code_shrink.proofs.InstrKinds.{Kind, Plain, Return, Tests, Jump, kind}
-use Rattle.code_shrink.proofs.NeatCode.{proc_at_place}
 use Rattle.code_shrink.proofs.Orders.{comes_from}
 use Rattle.code_shrink.proofs.Squeezed.{plain}
 use Rattle.code_shrink.proofs.WholeCode.{exact_keeps}

@@ -17,3 +17,4 @@ pub mod First
 pub mod Means
 pub mod Assigns
 pub mod Tests
+pub mod Examples

@@ -63,7 +63,8 @@ pub fn counters_belong_to_states()
 /// Where no statement of the text assigns to the counter by its name, it is exactly the number of
 /// times that the chart was processed with its event since its state was last entered, or the
 /// greatest number of 32 bits where that is less: after the start, after each reaction, and at each
-/// moment of every run over events with inputs that can be given, up to the first fault.
+/// moment, up to the first fault, of every run of the chart in which it is written out, over events
+/// with inputs that can be given.
 pub fn counters_of_a_text_are_exact()
     ensures start { (ks : List (List Counter)) (t : trees.Chart) (c d : Chart) (s : ℕ)
         (k : Counter) (b : Bounds) (n : ℕ) → IsWrittenOut ks t c d → IsCounterIn ks t c s k
@@ -82,8 +83,7 @@ pub fn counters_of_a_text_are_exact()
         (k : Counter) (b : Bounds) (events : List EventWithInputs) (moments : List Moment)
         → IsWrittenOut ks t c d → IsCounterIn ks t c s k → AssignsOnly (λ name. name ≢ k.name) t
         → AllByRecursion (CanBeGiven c.names) events
-        → CountingRun c (counters_for ks t) b events moments
-        → LoggedRun c (counters_for ks t) b
+        → RulesRun d b events moments → LoggedRun c (counters_for ks t) b
         (IsCount (counter_number t k) s (event_number t k) counter_end) events moments }
 {}
 

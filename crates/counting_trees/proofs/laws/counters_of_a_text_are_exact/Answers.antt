@@ -9,6 +9,7 @@ use Rattle.counting_trees.specs.Counters.{Counter, counter_end}
 use Rattle.counting_trees.specs.Numbers.{counters_for, counter_number, event_number}
 use Rattle.counting_trees.specs.Written.{IsWrittenOut, IsCounterIn}
 use Rattle.counting_trees.proofs.Assigns.{chart_only}
+use Rattle.counting_trees.proofs.Counts as counts
 use Rattle.counting_trees.proofs.laws.counters_of_a_text_are_exact.Goals as goal
 
 -- no statement of the chart assigns to the counter
@@ -31,4 +32,5 @@ returns-clause-reaction _ ks t c d s k b n w log event l h other before =
 pub returns-clause-run : goal.returns-clause-run
 returns-clause-run _ ks t c d s k b events moments l h other all run =
     run_counts c (counters_for ks t) b (counter_number t k) s (event_number t k) counter_end h.counter
-    (only ks t c d s k l h other) h.no_input events moments h.first all run
+    (only ks t c d s k l h other) h.no_input events moments h.first all
+    ((counts.run_counts ks t c d l b events moments).0 run)

@@ -1,4 +1,4 @@
-"""Finds the program flowc and runs it, and reads the files that a tool is given.
+"""Finds the programs flowc and chart_to_c, runs flowc, and reads the files that a tool is given.
 
 The statuses 1 to 6 are those of flowc. A tool that finds no flowc ends with 127, as a shell does that finds no program."""
 import os
@@ -9,14 +9,8 @@ from typing import NamedTuple
 
 from common import CHECKOUT
 
-BUILT = os.path.join(CHECKOUT, 'crates', 'flowc', 'out', 'flowc')
-CHART_TO_C = os.path.join(CHECKOUT, 'crates', 'chart_to_c', 'out', 'chart_to_c')
 NO_PROGRAM = 127
 REFUSED, USAGE, RUN_FAULT, READ_FAULT, MEMORY = 1, 2, 3, 4, 6
-HOW_TO_BUILD = ('`rt ci` at the top of the checkout proves it and leaves it there, which takes a while the first time; a proved '
-                'flowc that is kept elsewhere is named by --program FLOWC or by the variable FLOWC')
-
-
 class NoProgram(Exception):
     """There is no flowc; the text says where it was looked for, and what to do."""
 
@@ -28,34 +22,46 @@ class Ran(NamedTuple):
     line: str
 
 
-def find_program(named):
-    """The path of flowc: the named one, that of the variable FLOWC, or the one that is built in this checkout."""
-    for name, whose in ((named, '--program names'), (os.environ.get('FLOWC'), 'the variable FLOWC names')):
-        if name:
-            found = shutil.which(name)
-            if found is None:
-                raise NoProgram('%s %s, which is no program; %s' % (whose, name, HOW_TO_BUILD))
-            return os.path.abspath(found)
-    if not os.path.isfile(BUILT):
-        raise NoProgram('there is no flowc at %s; %s' % (BUILT, HOW_TO_BUILD))
-    return BUILT
+class Wanted(NamedTuple):
+    """A program of this checkout, the option and the variable that may name another one, and what builds it without its proofs."""
+    name: str
+    option: str
+    variable: str
+    trial: str
+
+    def advice(self):
+        """How there is such a program."""
+        return ('`rt ci` at the top of the checkout proves it and leaves it in crates/%s/out, which takes a while the first time; '
+                '`%s` with a command builds it without its proofs in one to two minutes; one that is kept elsewhere is named by '
+                '%s PROGRAM or by the variable %s' % (self.name, self.trial, self.option, self.variable))
+
+    def find(self, named, or_none):
+        """The path of the named program, that of the variable, the proved one of this checkout, or the unproved one that
+        examples/try keeps. Where none is named and none is there, there may be none."""
+        for name, whose in ((named, self.option + ' names'),
+                            (os.environ.get(self.variable), 'the variable %s names' % self.variable)):
+            if name:
+                found = shutil.which(name)
+                if found is None:
+                    raise NoProgram('%s %s, which is no program; %s' % (whose, name, self.advice()))
+                return os.path.abspath(found)
+        for place in (('crates', self.name, 'out'), ('out', 'unproved')):
+            built = os.path.join(CHECKOUT, *place, self.name)
+            if os.path.isfile(built):
+                return built
+        if or_none:
+            return None
+        raise NoProgram('there is no %s in this checkout; %s' % (self.name, self.advice()))
+
+
+def find_program(named, or_none=False):
+    """The path of flowc, which `--program` may name."""
+    return Wanted('flowc', '--program', 'FLOWC', 'examples/try').find(named, or_none)
 
 
 def find_chart_to_c(named, or_none=False):
-    """The path of chart_to_c: the named one, that of the variable CHART_TO_C, or the one that is built in this checkout. Where none
-    is named and none is built, there may be none."""
-    for name, whose in ((named, '--chart-to-c names'), (os.environ.get('CHART_TO_C'), 'the variable CHART_TO_C names')):
-        if name:
-            found = shutil.which(name)
-            if found is None:
-                raise NoProgram('%s %s, which is no program' % (whose, name))
-            return os.path.abspath(found)
-    if os.path.isfile(CHART_TO_C):
-        return CHART_TO_C
-    if or_none:
-        return None
-    raise NoProgram('there is no chart_to_c at %s; `rt ci` at the top of the checkout proves it and leaves it there; one that is '
-                    'kept elsewhere is named by --chart-to-c PROGRAM or by the variable CHART_TO_C' % CHART_TO_C)
+    """The path of chart_to_c, which `--chart-to-c` may name."""
+    return Wanted('chart_to_c', '--chart-to-c', 'CHART_TO_C', 'examples/try chart_to_c').find(named, or_none)
 
 
 def run(program, words, out=subprocess.PIPE):

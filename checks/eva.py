@@ -24,7 +24,7 @@ from typing import NamedTuple
 import chart_rules as rules
 from chart_c import LONGEST, Failed, c_name, field_of, make_c, state_name, write
 from chart_check import check_chart
-from programs import ended, parser, status_text
+from programs import ended, parser_of_charts, status_text
 
 EVA = ['frama-c', '-machdep', 'gcc_x86_64', '-eva', '-eva-precision', '3', '-eva-domains', 'sign', '-eva-no-print',
        '-eva-show-progress', '-warn-signed-downcast']
@@ -147,16 +147,12 @@ def asked(path, program, is_declared):
 
 def main(words):
     """Does what the words ask for, and gives the status."""
-    reader = parser(__doc__)
-    reader.add_argument('--against', metavar='CHART_TO_C', required=True)
+    reader = parser_of_charts(__doc__)
     reader.add_argument('--declared', action='store_true')
-    reader.add_argument('--jobs', metavar='J', type=int, default=os.cpu_count())
-    reader.add_argument('charts', metavar='CHART', nargs='+')
     options = reader.parse_args(words)
-    program = os.path.abspath(options.against)
     answers = []
     with ThreadPoolExecutor(options.jobs) as several:
-        for path, each in zip(options.charts, several.map(lambda path: found(path, program, options.declared), options.charts)):
+        for path, each in zip(options.charts, several.map(lambda path: found(path, options.against, options.declared), options.charts)):
             answers.append(each)
             if each.is_left_out:
                 print('%s: left out, since its C needs a type of 128 bits' % path)

@@ -207,20 +207,30 @@ def nothing_while_it_runs(counter, name, *words):
     return [] if notes.last == notes.second else ['%s: %d requests while the machine runs' % (name, notes.last - notes.second)]
 
 
-def a_start_takes_nothing(counter):
-    """What is wrong with the requests before the first line of two codes, of whose starts one does nothing."""
+def starts_take_nothing(counter, what, words_for):
+    """What is wrong with the requests before the first line of two runs, of whose starts one does nothing. `words_for` puts the files
+    of a run with that name and that guard, and gives the words of its call."""
     befores, lengths = [], []
     for name, busy in (('idle', 'false'), ('work', 'true ')):
-        counter.put(name, (BUSY % busy).encode())
-        counter.compile(name)
-        answer, notes = counter.call('exec', '--depth', '32', '--steps', '50000', name + '.code', 'none.events')
-        print('%-12s exec   %s, requests before the start is written %d' % (name, status_text(answer), notes.first))
+        words = words_for(name, busy)
+        answer, notes = counter.call(*words)
+        print('%-12s %-6s %s, requests before the first line is written %d' % (name, words[0], status_text(answer), notes.first))
         if answer.status != 0:
-            return ['%s: %s' % (name, status_text(answer))]
+            return ['%s%s: %s' % (name, what, status_text(answer))]
         befores.append(notes.first)
         lengths.append(len(answer.out))
-    wrong = [] if lengths[1] > 2 * lengths[0] else ['the start that works emits no more than the other']
-    return wrong + ([] if befores[0] == befores[1] else ['a start: %d requests more' % (befores[1] - befores[0])])
+    wrong = [] if lengths[1] > 2 * lengths[0] else ['the start%s that works emits no more than the other' % what]
+    return wrong + ([] if befores[0] == befores[1] else ['a start%s: %d requests more' % (what, befores[1] - befores[0])])
+
+
+def a_start_takes_nothing(counter):
+    """The same of the starts of two codes."""
+    def words_for(name, busy):
+        counter.put(name, (BUSY % busy).encode())
+        counter.compile(name)
+        return 'exec', '--depth', '32', '--steps', '50000', name + '.code', 'none.events'
+
+    return starts_take_nothing(counter, '', words_for)
 
 
 def nets_take_nothing(counter):
@@ -236,19 +246,13 @@ def nets_take_nothing(counter):
 
 
 def starts_of_nets_take_nothing(counter):
-    """What is wrong with the requests before the first line of two nets, of whose starts one does nothing."""
-    befores, lengths = [], []
-    for name, busy in (('idle', 'false'), ('work', 'true ')):
+    """What is wrong with the requests before the first lines of two nets, of whose starts one does nothing."""
+    def words_for(name, busy):
         counter.put(name, (BUSY % busy).replace('2400', '400').encode())
         counter.put(name + '.net', (START % name).encode())
-        answer, notes = counter.call('net', name + '.net', 'none.events')
-        print('%-12s net    %s, requests before the starts are written %d' % (name, status_text(answer), notes.first))
-        if answer.status != 0:
-            return ['%s in a net: %s' % (name, status_text(answer))]
-        befores.append(notes.first)
-        lengths.append(len(answer.out))
-    wrong = [] if lengths[1] > 2 * lengths[0] else ['the start in a net that works emits no more than the other']
-    return wrong + ([] if befores[0] == befores[1] else ['a start in a net: %d requests more' % (befores[1] - befores[0])])
+        return 'net', name + '.net', 'none.events'
+
+    return starts_take_nothing(counter, ' in a net', words_for)
 
 
 def rules_take_some(counter):

@@ -29,7 +29,7 @@ from typing import NamedTuple
 
 import chart_rules as rules
 from chart_c import LONGEST, Failed, make_c
-from programs import ended, parser, status_text
+from programs import ended, parser_of_charts, status_text
 
 PAGE = os.path.join(os.path.dirname(os.path.abspath(__file__)), '..', 'docs', 'C.md')
 ROW = re.compile(r'^(\| [^|`]+ \| [^|`]*`([\w.-]+)` \| )([\d,]+)( \| )([\d,]+)( \| .*)$')
@@ -139,16 +139,12 @@ def differences(lines, found):
 
 def main(words):
     """Does what the words ask for, and gives the status."""
-    reader = parser(__doc__)
-    reader.add_argument('--against', metavar='CHART_TO_C', required=True)
+    reader = parser_of_charts(__doc__)
     reader.add_argument('--write', action='store_true')
-    reader.add_argument('--jobs', metavar='J', type=int, default=os.cpu_count())
-    reader.add_argument('charts', metavar='CHART', nargs='+')
     options = reader.parse_args(words)
-    program = os.path.abspath(options.against)
     with ThreadPoolExecutor(options.jobs) as several:
         try:
-            found = counts_of(list(several.map(lambda path: read(path, program), options.charts)))
+            found = counts_of(list(several.map(lambda path: read(path, options.against), options.charts)))
         except (Failed, OSError) as failed:
             print(failed)
             return 1

@@ -38,6 +38,15 @@ def parser(usage):
     return argparse.ArgumentParser(description=usage, formatter_class=argparse.RawDescriptionHelpFormatter, allow_abbrev=False)
 
 
+def parser_of_charts(usage):
+    """Such a reader for a script that looks at the C that a built chart_to_c writes of charts, several at a time."""
+    reader = parser(usage)
+    reader.add_argument('--against', metavar='CHART_TO_C', type=os.path.abspath, required=True)
+    reader.add_argument('--jobs', metavar='J', type=int, default=os.cpu_count())
+    reader.add_argument('charts', metavar='CHART', nargs='+')
+    return reader
+
+
 def at_least_one(word):
     """The number of cases that a word asks for. A check that tries none is refused, since it would pass."""
     number = int(word)

@@ -4,7 +4,8 @@ Qt SCXML, and then the C of three examples with C by hand.
 
     bench/compare.py [BIN [CHART_TO_C]] [--functions]
 
-BIN and CHART_TO_C are built programs; without them, crates/flowc/out/flowc and crates/chart_to_c/out/chart_to_c after `rt run` there.
+BIN and CHART_TO_C are built programs; without them, crates/flowc/out/flowc and crates/chart_to_c/out/chart_to_c after `rt run`
+there.
 
 All of them run the 20,000 events and must write the same trace, byte for byte, before anything is measured; a difference is an
 error. Instructions are counted by valgrind's tool callgrind over the first 5,000 events, less those of a run without events.

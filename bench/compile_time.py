@@ -6,7 +6,7 @@
 KIND is one of these, and all where nothing is said:
 
     generated       the generated case 5: 5 regions of 60 states, each with an entry action and three transitions, of which one
-                    sends an event to all (checks/generated_cases.py)
+                    sends an event to all (checks/reference/generated_cases.py)
     fleet           13 copies of examples/spacecraft side by side: regions in regions, states in five levels, history, guards
                     that ask for states, fixed point, broadcasts and a directed send. Each copy has its own events and data
 

@@ -7,8 +7,8 @@ Before anything is measured both programs must write the trace of `rules`, byte 
 over that of long_events.py. Both are compiled by `gcc -O2`. Machine instructions are counted by callgrind over the long file:
 those from each call of the chart's reaction to its return, and those of the whole program, less those of a run without events.
 
-Both have the interface of the header that `chart_to_c` writes. So both have the driver of checks/c_driver, which reads the events
-and writes the trace, and the table by which checks/chart_c.py ties it to a chart."""
+Both have the interface of the header that `chart_to_c` writes. So both have the driver of checks/tables/c_driver, which reads the
+events and writes the trace, and the table by which checks/tables/chart_c.py ties it to a chart."""
 import os
 import sys
 import tempfile

@@ -4,7 +4,7 @@
     python3 bench/generated.py N FOLDER
 
 Case N has 2 to 5 regions of 3 to 62 states each, and 20,000 events; case 0 has 105 states. FOLDER gets `N.chart` and
-`N.events`. The generator is that of checks/generated_cases.py."""
+`N.events`. The generator is that of checks/reference/generated_cases.py."""
 import sys
 
 from measuring import write             # which finds the modules of checks too

@@ -3,8 +3,8 @@
 
     bench/large_chart_c.py CHART_TO_C [KIND ..]     CHART_TO_C is a built program, and KIND one of large_charts.py
 
-It prints a row for each chart: the bytes of the source, and the seconds of processor time and the peak memory of `chart_to_c source`,
-of `gcc -O1` and of `clang -O1`, where they are there, and whether the program that each of them makes writes the trace of
+It prints a row for each chart: the bytes of the source, and the seconds of processor time and the peak memory of `chart_to_c
+source`, of `gcc -O1` and of `clang -O1`, where they are there, and whether the program that each of them makes writes the trace of
 chart_rules.py over three events. It ends with status 1 where one doesn't. How fast a program is has no limit."""
 import os
 import shutil

@@ -4,11 +4,12 @@
     bench/large_charts.py KIND      KIND is a name of the table in README.md
     bench/large_charts.py BIN       BIN is the path of a built program, with a slash
 
-The second form prints the rows of that table. A row has the states, junctions, transitions and pairs that `check` counts, the
-bytes of the code with its height and work, by checks/code_text.py, and the seconds of processor time and the peak memory of
+The second form prints the rows of that table. A row has the states, junctions, transitions and pairs that `check` counts, the bytes
+of the code with its height and work, by checks/reference/code_text.py, and the seconds of processor time and the peak memory of
 `compile`, of `exec` and `rules` over an event file of three lines, of `upgrade`, of `shrink` with the bytes that it writes, and of
 `bounds` with what it answers. It says where the traces of `exec` and `rules` differ, that of the smaller code among them, or the
-code and what `upgrade` makes of it. It makes its files in a temporary folder, and is no test: how fast a program is has no limit."""
+code and what `upgrade` makes of it. It makes its files in a temporary folder, and is no test: how fast a program is has no
+limit."""
 import filecmp
 import multiprocessing
 import os

@@ -8,7 +8,7 @@ import time
 from typing import NamedTuple
 
 HERE = os.path.dirname(os.path.abspath(__file__))
-sys.path.append(os.path.join(HERE, os.pardir, 'checks'))
+sys.path += [os.path.join(HERE, os.pardir, 'checks', folder) for folder in ('reference', 'tables')]
 
 from programs import waited
 

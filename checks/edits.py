@@ -7,10 +7,10 @@
 
 `rt ci` tries the edits in `must-fail/` at each run, and so proves the crate once more. An edit in `edits/` has the same form and is
 judged by the same code of the kit, but only where something changed: `edits_tried.txt` has a row for each crate with such edits, on
-which texts they were all refused. The texts are the files of the crate and its edits, and of all crates below it the definitions and
-the public items of the code with their contracts and without their bodies, all less lines that are comments. A row stands for the
-logic of the kit that is named in the first line. Trying needs the libraries that `rt ci` leaves, takes as long as a proof of the crate and
-some seconds for each edit, and writes the rows anew.
+which texts they were all refused. The texts are the files of the crate and its edits, and of all crates below it the definitions
+and the public items of the code with their contracts and without their bodies, all less lines that are comments. A row stands for
+the logic of the kit that is named in the first line. Trying needs the libraries that `rt ci` leaves, takes as long as a proof of
+the crate and some seconds for each edit, and writes the rows anew.
 
 The status is 1 where edits weren't tried on the present texts, where the prover took one, where one can't be applied, or where no
 crate has any."""
@@ -28,9 +28,11 @@ from concurrent.futures import ThreadPoolExecutor
 
 sys.dont_write_bytecode = True
 
-import tables                                               # noqa: E402, which is a module beside this one
+HERE = os.path.dirname(os.path.abspath(__file__))
+sys.path.insert(0, os.path.join(HERE, 'reference'))
+import tables                                               # noqa: E402, which is a module of that folder
 
-ROOT = os.path.dirname(os.path.dirname(os.path.abspath(__file__)))
+ROOT = os.path.dirname(HERE)
 TRIED = os.path.join(ROOT, 'checks', 'edits_tried.txt')
 PARTS = ('src', 'specs', 'proofs')
 COMMENTS = {'.rt': r'(?m)^ *//.*\n', '.antt': r'(?m)^ *--.*\n'}

@@ -6,10 +6,9 @@ import json
 import os
 import re
 import subprocess
-import sys
 import tempfile
 
-sys.path.insert(0, os.path.join(os.path.dirname(os.path.abspath(__file__)), '..', 'checks'))
+import common                                # noqa: F401, which finds the folders of checks
 
 # The kind that a scope of TextMate stands for, by how it begins.
 SCOPES = {'comment': 'comment', 'storage': 'keyword', 'keyword.operator.flowc-chart': 'symbol', 'keyword.operator.flowc-events': 'value',

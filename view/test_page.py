@@ -2,10 +2,10 @@
 """Tries pages in a browser, by hand: `view/test_page.py PAGE ..`, each a page that flowview wrote. It needs Debian's package
 `chromium`.
 
-A script is put after that of the page, in a copy. It steps through all lines, or through 300 of them, and compares what is
-marked as active with the line of the trace; it tries keys, the slider, the list, the switches and the drawings of a large
-chart; it tells how long the page took to open, and a step in the middle of all; and it notes whether anything scripted failed. It writes a
-line for each page, and ends with status 1 where one isn't right."""
+A script is put after that of the page, in a copy. It steps through all lines, or through 300 of them, and compares what is marked
+as active with the line of the trace; it tries keys, the slider, the list, the switches and the drawings of a large chart; it tells
+how long the page took to open, and a step in the middle of all; and it notes whether anything scripted failed. It writes a line for
+each page, and ends with status 1 where one isn't right."""
 import os
 import re
 import subprocess

@@ -1,5 +1,5 @@
 /* What the charts by hand share. Each has the interface of the header that chart_to_c writes of the chart, so that the driver and
-   the table of checks/chart_c.py serve both. */
+   the table of checks/tables/chart_c.py serve both. */
 #ifndef BY_HAND_H
 #define BY_HAND_H
 

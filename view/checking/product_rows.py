@@ -19,8 +19,8 @@ from common import CHECKOUT, VIEW
 from common.program import read_file
 from traces.lines import read_trace
 
-NAMED = ('examples/pump/pump', 'checks/c_charts/wide')
-UNITS = ('examples/motor/motor', 'examples/semantics/overflow_error', 'checks/c_charts/wide')
+NAMED = ('examples/pump/pump', 'checks/tables/c_charts/wide')
+UNITS = ('examples/motor/motor', 'examples/semantics/overflow_error', 'checks/tables/c_charts/wide')
 # A chart with `_` in its name, whose functions may call themselves, and events for it.
 CALLING = '''chart Calls_back {
   event input GO;

@@ -1,5 +1,5 @@
 """The answers to the tables in the folder `tables`, none of which needs Graphviz or a browser. The tables are as those of
-`checks/tables.py`, and say themselves what the parts of a block are."""
+`checks/reference/tables.py`, and say themselves what the parts of a block are."""
 from itertools import groupby
 
 from chart_syntax import Reader

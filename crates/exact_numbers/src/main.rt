@@ -1,5 +1,5 @@
 //! Answers a table of calls of `fixed_point`: one call a line of standard input, one answer a line
-//! of standard output. `checks/exact_numbers.py` works the same answers out by fractions.
+//! of standard output. `checks/reference/exact_numbers.py` works the same answers out by fractions.
 #![tactic(auto)]
 
 mod answer;

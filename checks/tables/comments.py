@@ -1,0 +1,303 @@
+#!/usr/bin/env python3
+"""Holds the comments of the C that a built `chart_to_c` writes of random charts against what its functions are called with.
+
+    python3 checks/tables/comments.py --against CHART_TO_C --charts N [--seed S] [--first M] [--largest BYTES] [--events E] [--jobs J]
+                               [--keep FOLDER]
+    python3 checks/tables/comments.py --against CHART_TO_C CHART .. [--seed S] [--events E]
+
+The comment above a function names the event and the home for which it is, where it is for one alone: `, where the event is GO`, `,
+where the home is Door/Open`, ` and the home is the chart`. `, where the event is another one` are those that no comment of the same
+part and the same home names. Nothing is said of them where no more stands there, nor where `, and what is equal to it` admits
+others. Each function is given a test that its parameters `event` and `home` are so, at its beginning and at each turn of the loop
+that takes the place of a call of itself. The C is compiled by gcc, and starts and takes E random events of the chart or ticks,
+2,000 where nothing is said, with random values of the inputs; after a fault it starts again.
+
+A random chart and its bounds are made as c_runs.py makes them: they follow from the seed and the chart's number. Charts of more
+than BYTES bytes are left out, and none where nothing is said. J charts are tried at a time, as many as there are processors where
+nothing is said; what is written is the same for each J. A line tells each function that is called with another event or home than
+its comment names, and the chart is kept in FOLDER, which is `differences` where nothing is said. At the end stands how many
+comments name something, and how many functions were called. The program ends with status 1 where a comment is wrong, and where no
+comment was tried. A chart takes about a second of a processor."""
+import os
+import random
+import re
+import sys
+import tempfile
+from collections import Counter
+from typing import NamedTuple
+
+import beside                                # noqa: F401, which finds the other folders of checks
+import chart_rules as rules
+import random_charts
+from c_runs import words_for
+from chart_c import Failed, c_name, field_of, output_of, write
+from chart_check import check_chart
+from programs import at_least_one, keep_files, parser, print_counts, results_of
+from random_compiled import DEFAULT_BOUNDS, bounds_of
+
+FUNCTION = re.compile(r'/\* ((?:(?!\*/).)*) \*/\n(?:static )?\w+ (\w+)\(([^)]*)\)\n\{\n(.*?)^\}\n', re.DOTALL | re.MULTILINE)
+SAID = re.compile(r'(?P<part>.*?(?:, the actions noted there)?)'
+                  r'(?:, where the event is (?P<event>another one|the start|a tick|\w+))?'
+                  r'(?:(?:, where| and) the home is (?P<home>the chart|[\w/]+))?'
+                  r'(?P<shared>, and what is equal to it)?')
+OTHER = 'another one'
+LOOP = re.compile(r'^    while \(true\) \{\n', re.MULTILINE)
+# What the tests call, and how the events and inputs are chosen. A line is written for the first wrong call of each function.
+BEFORE = r'''
+#include <stdio.h>
+static bool was_called[%(count)d];
+static bool was_told[%(count)d];
+static void compare_call(unsigned number, bool is_right, uint32_t event, uint32_t home)
+{
+    was_called[number] = true;
+    if (!is_right && !was_told[number]) {
+        was_told[number] = true;
+        printf("wrong %%u %%u %%u\n", number, (unsigned)event, (unsigned)home);
+    }
+}
+'''
+AFTER = r'''
+static uint64_t chosen = %(seed)du;
+static uint64_t choose(void)
+{
+    chosen ^= chosen << 13;
+    chosen ^= chosen >> 7;
+    chosen ^= chosen << 17;
+    return chosen * UINT64_C(2685821657736338717);
+}
+static uint64_t mantissa(unsigned width, bool is_signed)
+{
+    uint64_t all = choose() >> (64u - width);
+    if (choose() %% 2u == 0u) {
+        return is_signed ? (uint64_t)((int64_t)(all << (64u - width)) >> (64u - width)) : all;
+    }
+    return width > 3u ? all %% 8u : 0u;
+}
+int main(void)
+{
+    static const uint32_t events[] = {%(events)s};
+    static %(name)s_chart chart;
+    bool runs = false;
+    for (unsigned turn = 0u; turn < %(turns)du; turn++) {
+        if (runs) {
+%(inputs)s
+            runs = %(name)s_react(&chart, events[choose() %% (sizeof events / sizeof events[0])]);
+        } else {
+            runs = %(name)s_init(&chart) && %(name)s_start(&chart);
+        }
+    }
+    for (unsigned number = 0u; number < %(count)du; number++) {
+        if (was_called[number]) {
+            printf("called %%u\n", number);
+        }
+    }
+    return 0;
+}
+'''
+
+
+# ---- what comments say
+
+class Function(NamedTuple):
+    """A function of the source: its name, the words above it, its parameters, and what the words say: the part, the event and the home,
+    None where none is said, and whether others are admitted."""
+    name: str
+    words: str
+    parameters: list
+    part: str
+    event: str
+    home: str
+    is_shared: bool
+
+    def names(self, parameter):
+        """Whether the words name the only value that a parameter may have, or those that it may not have."""
+        return not self.is_shared and getattr(self, parameter) is not None
+
+
+def function_of(match):
+    """The function that stands in a source."""
+    words = ' '.join(match[1].split())
+    said = SAID.fullmatch(words)
+    return Function(match[2], words, re.findall(r'(\w+)(?:,|$)', match[3]), said['part'], said['event'], said['home'],
+                    said['shared'] is not None)
+
+
+class Numbers:
+    """The numbers of a chart's events and states in its C, and their words."""
+
+    def __init__(self, chart):
+        self.events = {event.name: number for number, event in enumerate(chart.events)}
+        self.inputs = [number for number, event in enumerate(chart.events) if event.kind == 'input']
+        self.tick = len(self.events)
+        self.events.update({'a tick': self.tick, 'the start': self.tick + 1})
+        self.states = {state.path() if state.parent else 'the chart': number for number, state in enumerate(chart.states)}
+
+    def event_test(self, event, named):
+        """C that holds where the event is the one that is said; the named ones are those of the part."""
+        if event == OTHER:
+            return ' && '.join('event != %du' % self.events[each] for each in sorted(named)) or 'true'
+        return 'event == %du' % self.events[event]
+
+    def called_with(self, event, home):
+        """Words for the event and the home of a call."""
+        words = {number: name for name, number in self.events.items()}
+        states = {number: path for path, number in self.states.items()}
+        return 'the event is %s and the home is %s' % (words.get(event, event), states.get(home, home))
+
+
+def test_of(function, place, numbers, functions):
+    """A line of C that tests a call."""
+    named = {each.event for each in functions if (each.part, each.home) == (function.part, function.home)} - {None, OTHER}
+    tests = []
+    if function.names('event') and 'event' in function.parameters:
+        tests.append('(%s)' % numbers.event_test(function.event, named))
+    if function.names('home') and 'home' in function.parameters:
+        tests.append('(home == %du)' % numbers.states[function.home])
+    given = [each if each in function.parameters else '0u' for each in ('event', 'home')]
+    return '    compare_call(%du, %s, %s);\n' % (place, ' && '.join(tests) or 'true', ', '.join(given))
+
+
+def with_tests(source, numbers):
+    """The source with a test in each function, and its functions."""
+    matches = list(FUNCTION.finditer(source))
+    functions = list(map(function_of, matches))
+    for place, match in reversed(list(enumerate(matches))):
+        test = test_of(functions[place], place, numbers, functions)
+        body = test + LOOP.sub(lambda loop: loop[0] + test, match[4])
+        source = source[:match.start(4)] + body + source[match.end(4):]
+    return source, functions
+
+
+# ---- one chart
+
+def stored(datum):
+    """A line of C that stores a random value in an input."""
+    width, sign = (1, 'u') if datum.scale is None else (datum.scale.width, datum.scale.sign)
+    return '            chart.%s = (__typeof__(chart.%s))mantissa(%du, %s);' % (
+        field_of(datum), field_of(datum), width, 'true' if sign == 's' else 'false')
+
+
+def program_of(chart, source, seed, turns):
+    """The C of a chart with tests and a `main`, and its functions."""
+    numbers = Numbers(chart)
+    source, functions = with_tests(source, numbers)
+    parts = {
+        'name': c_name(chart), 'count': len(functions), 'seed': seed, 'turns': turns,
+        'events': ', '.join('%du' % number for number in [*numbers.inputs, numbers.tick]),
+        'inputs': '\n'.join(stored(datum) for datum in chart.data if datum.kind == 'input'),
+    }
+    include = '#include "%s.h"\n' % chart.root.name
+    if source.count(include) != 1:
+        raise Failed('the source of %s does not include its header' % chart.root.name)
+    return source.replace(include, include + BEFORE % parts) + AFTER % parts, functions
+
+
+class Compared(NamedTuple):
+    """What was met of a chart: counts, lines that tell what is wrong, what its file is called, and the file, by its kind."""
+    counts: Counter
+    lines: list
+    stem: str
+    files: dict
+
+
+class Comparison:
+    """Compares charts by a built program, in folders below one."""
+
+    def __init__(self, options, folder):
+        self.options, self.folder = options, folder
+
+    def calls_of(self, text, bounds, seed):
+        """The functions of a chart's C, the numbers of those that were called, the wrong calls, and the chart's numbers."""
+        chart = check_chart(text)
+        with tempfile.TemporaryDirectory(dir=self.folder) as folder:
+            write(folder, 'chart', text)
+            header, source = (output_of([self.options.against, word, *words_for(bounds), 'chart'], folder)
+                              for word in ('header', 'source'))
+            write(folder, chart.root.name + '.h', header)
+            source, functions = program_of(chart, source, seed, self.options.events)
+            write(folder, 'program.c', source)
+            recursion = '-D%s_MAY_RECURSE' % c_name(chart)
+            output_of(['gcc', '-std=gnu99', '-O0', '-w', recursion, 'program.c', '-o', 'program'], folder)
+            told = [line.split() for line in output_of(['./program'], folder).splitlines()]
+        called = {int(line[1]) for line in told if line[0] == 'called'}
+        return functions, called, [tuple(map(int, line[1:])) for line in told if line[0] == 'wrong'], Numbers(chart)
+
+    def compared(self, name, text, bounds, seed):
+        """Lines that tell what is wrong of a chart, and counts of what was met."""
+        try:
+            functions, called, wrong, numbers = self.calls_of(text, bounds, seed)
+        except Failed as failed:
+            return ['%s: %s' % (name, failed)], Counter({'charts': 1})
+        says = [place for place, each in enumerate(functions) if each.names('event') or each.names('home')]
+        counts = Counter({
+            'charts': 1, 'charts with a wrong comment': bool(wrong), 'functions': len(functions), 'functions that were called': len(called),
+            'comments that name an event or a home': len(says),
+            'comments that do, of functions that were called': len(called.intersection(says)),
+            'comments that name what the function is not given': sum(
+                any(each.names(name) and name not in each.parameters for name in ('event', 'home')) for each in functions),
+            'wrong comments': len(wrong)})
+        return ['%s: %s, %s: called where %s' % (name, functions[place].name, functions[place].words, numbers.called_with(event, home))
+                for place, event, home in wrong], counts
+
+    def random_chart(self, number):
+        """Compares a random chart; None where the chart isn't accepted, or is too long."""
+        (compared,) = rules.with_deep_calls(lambda: [self.compared_chart(number)])
+        return compared
+
+    def compared_chart(self, number):
+        """The same, where calls may nest deeply."""
+        choices = random.Random('c %s %d' % (self.options.seed, number))
+        drawn = random_charts.accepted_text(choices, self.options.largest)
+        if drawn is None:
+            return None
+        text, _ = drawn
+        bounds = bounds_of(choices)
+        lines, counts = self.compared('chart %d' % number, text, bounds, choices.randrange(1, 2 ** 63))
+        return Compared(counts, lines, 'c %s %d %d %d' % (self.options.seed, number, *bounds), {'chart': text.encode('latin-1')})
+
+
+def tried(options, folder):
+    """What was met of each chart that the words name."""
+    comparison = Comparison(options, folder)
+    for path in options.paths:
+        with open(path, 'rb') as file:
+            lines, counts = comparison.compared(path, file.read().decode('latin-1'), DEFAULT_BOUNDS,
+                                                random.Random(options.seed).randrange(1, 2 ** 63))
+        yield Compared(counts, lines, path, {})
+    seen = 0
+    for each in results_of(comparison.random_chart, options.first, options.jobs) if options.charts else ():
+        if each is not None:
+            yield each
+            seen += 1
+        if seen == options.charts:
+            return
+
+
+def main(words):
+    """Compares charts, and gives the status."""
+    reader = parser(__doc__)
+    reader.add_argument('--against', metavar='CHART_TO_C', required=True)
+    reader.add_argument('--charts', metavar='N', type=at_least_one, default=0)
+    reader.add_argument('--seed', default='1')
+    reader.add_argument('--first', metavar='M', type=int, default=0)
+    reader.add_argument('--largest', metavar='BYTES', type=int, default=0)
+    reader.add_argument('--events', metavar='E', type=at_least_one, default=2000)
+    reader.add_argument('--jobs', metavar='J', type=int, default=os.cpu_count())
+    reader.add_argument('--keep', metavar='FOLDER', default='differences')
+    reader.add_argument('paths', metavar='CHART', nargs='*')
+    options = reader.parse_args(words)
+    options.against = os.path.abspath(options.against)
+    counts, wrong = Counter(), 0
+    with tempfile.TemporaryDirectory(dir='/dev/shm' if os.path.isdir('/dev/shm') else None) as folder:
+        for each in tried(options, folder):
+            counts.update(each.counts)
+            if each.lines:
+                wrong += 1
+                keep_files(options.keep, each.stem, each.files)
+                print('\n'.join(each.lines), flush=True)
+    print_counts('comments', counts)
+    return 1 if wrong or not counts['comments that do, of functions that were called'] else 0
+
+
+if __name__ == '__main__':
+    sys.exit(rules.with_deep_calls(lambda: main(sys.argv[1:])))

@@ -4,22 +4,29 @@
     python3 checks/tables/paths.py PAGE..
 
 In a page, a text in Markdown, each link leads to a file or a folder of the repository and, where it says so, to a heading; and each
-path between backquotes that begins with the name of a crate and `src`, `specs`, `proofs`, `must-fail` or `edits`, or with `checks`,
-`docs`, `examples` or `bench`, is that of a file or a folder. What isn't there is printed, and the status is then 1; so it is where
-the pages name nothing."""
+path between backquotes that begins with the name of a crate and `src`, `specs`, `proofs`, `must-fail` or `edits`, and each word of
+a command, between backquotes or in a block, that begins with `checks`, `crates`, `docs`, `examples`, `bench` or `view` and `/`, is
+that of a file or a folder; a word with `*` names at least one. What isn't there is printed, and the status is then 1; so it is
+where the pages name nothing."""
+import glob
 import os
 import re
 import sys
 
 ROOT = os.path.dirname(os.path.dirname(os.path.dirname(os.path.abspath(__file__))))
 OF_A_CRATE = re.compile(r'[a-z_]+/(?:src|specs|proofs|must-fail|edits)(?:/[\w+.-]+)*/?')
-OF_THE_REPOSITORY = re.compile(r'(?:crates/[a-z_]+|checks|docs|examples|bench)(?:/[\w+.-]+)+/?')
+OF_THE_REPOSITORY = re.compile(r'(?<![\w./-])(?:crates|checks|docs|examples|bench|view)/[\w+./*-]*[\w/*]')
+BLOCK = re.compile(r'(?ms)^```.*?^```$|^(?: {4}\S.*\n)+')
 MADE = ('crates/flowc/out', 'crates/chart_to_c/out')        # what `rt ci` makes
 
 
-def content(path):
+def read(path):
     with open(path, encoding='utf-8') as file:
-        return re.sub(r'(?ms)^```.*?^```$', '', file.read())
+        return file.read()
+
+
+def content(path):
+    return re.sub(r'(?ms)^```.*?^```$', '', read(path))
 
 
 def anchors(path):
@@ -33,13 +40,13 @@ def missing_link(page, target):
     return not os.path.exists(path) or bool(anchor) and anchor not in anchors(path)
 
 
-def missing_path(span):
-    """Whether a span is a path that isn't there, or None where it is no path."""
-    if OF_THE_REPOSITORY.fullmatch(span):
-        return not span.startswith(MADE) and not os.path.exists(os.path.join(ROOT, span))
-    if OF_A_CRATE.fullmatch(span):
-        return not os.path.exists(os.path.join(ROOT, 'crates', span))
-    return None
+def paths_in(words):
+    """The paths of the repository among words, and for each whether it isn't there."""
+    if OF_A_CRATE.fullmatch(words):
+        yield words, not os.path.exists(os.path.join(ROOT, 'crates', words))
+        return
+    for path in OF_THE_REPOSITORY.findall(words):
+        yield path, not path.startswith(MADE) and not glob.glob(os.path.join(ROOT, path))
 
 
 def main(pages):
@@ -50,10 +57,10 @@ def main(pages):
             if not target.startswith('http'):
                 named += 1
                 missing += ['%s: the link %s' % (page, target)] if missing_link(page, target) else []
-        for span in re.findall('`([^`\n]*)`', text):
-            is_missing = missing_path(span)
-            named += is_missing is not None
-            missing += ['%s: %s' % (page, span)] if is_missing else []
+        for words in [*re.findall('`([^`]*)`', text), *BLOCK.findall(read(page))]:
+            for path, is_missing in paths_in(words):
+                named += 1
+                missing += ['%s: %s' % (page, path)] if is_missing else []
     print('%d pages name %d links and paths' % (len(pages), named))
     for line in missing:
         print(line + ' leads nowhere')

@@ -1,7 +1,6 @@
-#!/usr/bin/env python3
-r"""Bounds of random charts, and runs under exactly these bounds.
+"""Bounds of random charts, and runs under exactly these bounds.
 
-    python3 checks/random/random_bounds.py --seed S --cases N [--against PROGRAM] [--files K] [--first M] [--keep FOLDER]
+    python3 checks/random/main.py bounds --seed S --cases N [--against PROGRAM] [--files K]
 
 A case is a chart of random_charts.py; one in ten is changed, so that it is mostly refused. The bounds of an accepted chart are
 those of bounds.py. Where there are some, chart_rules.py runs the chart over K random event files, 2 where nothing is said, under
@@ -10,15 +9,9 @@ their transitions that name no event, since with many of these a chart has no bo
 
 With `--against PROGRAM` the program does `bounds` on each text, also on those that are refused, which must be the answer of
 bounds.py, and `rules`, `run`, and `exec` of what `compile` writes on each event file under these bounds, which must be the answers
-of chart_rules.py. Without it most texts aren't even written.
-
-A case follows from the seed and its own number alone, so `--first M` begins with case M. The program ends with status 1 where
-anything is wrong. It writes a line for each such case, keeps its files in FOLDER, which is `differences` where nothing is said, and
-writes how many of the charts and runs had what."""
+of chart_rules.py. Without it most texts aren't even written."""
 import os
 import random
-import sys
-import tempfile
 from collections import Counter
 
 import beside                                # noqa: F401, which finds the other folders of checks
@@ -27,7 +20,8 @@ import chart_check as check
 import chart_rules as rules
 import chart_syntax as syntax
 import random_charts
-from programs import Ended, at_least_one, differences, ended, keep_files, parser, print_counts
+from campaign import Campaign
+from programs import Ended, differences, ended, keep_files
 
 LONGEST = 120               # seconds for one command
 OVERRUN = ('depth', 'steps')
@@ -62,16 +56,13 @@ class Comparison:
     """Tries charts, and counts what was met."""
 
     def __init__(self, program, seed, files, keep, folder):
-        self.program = program and os.path.abspath(program)
-        self.seed, self.files, self.keep, self.folder = seed, files, keep, folder
-        self.charts, self.runs, self.greatest = Counter(), Counter(), Counter()
-        self.wrong = 0
+        self.program, self.seed, self.files, self.keep, self.folder = program, seed, files, keep, folder
+        self.charts, self.runs = Counter(), Counter()
 
     def differ(self, number, lines, **contents):
-        """Counts and writes what is wrong, and keeps its files."""
+        """Writes what is wrong, and keeps its files."""
         if not lines:
             return
-        self.wrong += 1
         keep_files(self.keep, 'bounds %s %d' % (self.seed, number),
                    {kind: content.encode('latin-1') for kind, content in contents.items()})
         print('\n'.join(lines), flush=True)
@@ -141,29 +132,13 @@ class Comparison:
             lines += differences(name + command, told, self.run(command, first, 'events', options=options))
         return lines
 
-    def print_counts(self):
-        print_counts('charts', self.charts)
-        print_counts('runs under exactly the bounds', self.runs)
-        print('\n%d charts, %d wrong' % (self.charts['accepted'] + self.charts['refused'], self.wrong))
+
+def add_options(reader):
+    reader.add_argument('--against', metavar='PROGRAM', type=os.path.abspath)
+    reader.add_argument('--files', metavar='K', type=int, default=2)
 
 
-def main(words):
-    """Tries as many cases as are asked for, and gives the status."""
-    reader = parser(__doc__)
-    reader.add_argument('--against', metavar='PROGRAM')
-    reader.add_argument('--seed', default='1')
-    reader.add_argument('--cases', type=at_least_one, default=1000)
-    reader.add_argument('--first', type=int, default=0)
-    reader.add_argument('--files', type=int, default=2)
-    reader.add_argument('--keep', metavar='FOLDER', default='differences')
-    options = reader.parse_args(words)
-    with tempfile.TemporaryDirectory(dir='/dev/shm' if os.path.isdir('/dev/shm') else None) as folder:
-        comparison = Comparison(options.against, options.seed, options.files, options.keep, folder)
-        for number in range(options.first, options.first + options.cases):
-            comparison.case(number)
-    comparison.print_counts()
-    return 1 if comparison.wrong else 0
-
-
-if __name__ == '__main__':
-    sys.exit(rules.with_deep_calls(lambda: main(sys.argv[1:])))
+def campaign(options, folder):
+    """Tries charts; main.py calls it."""
+    comparison = Comparison(options.against, options.seed, options.files, options.keep, folder)
+    return Campaign(comparison.case, lambda: {'charts': comparison.charts, 'runs under exactly the bounds': comparison.runs})

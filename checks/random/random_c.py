@@ -1,34 +1,30 @@
-#!/usr/bin/env python3
-r"""Random files in the subset of C, by c_subset.py and by C compilers.
+"""Random files in the subset of C, by c_subset.py and by C compilers.
 
-    python3 checks/random/random_c.py --seed S --files N --wrong M [--first K] [--keep FOLDER]
+    python3 checks/random/main.py c --seed S --cases N [--wrong]
 
-A file is made statement by statement, each of which is tried by c_subset.py from several structs and locals and is kept where it
-isn't Wrong; some of its functions return the value of an expression and no more. It is written, read back by c_subset.py, which
-must give the same trees, and its functions are called with a struct of which most has values. A call that is Wrong is left out. gcc
-and clang, where they are there, compile it by `-std=c99 -pedantic-errors` with -O0, with -O2, and with -O1 and
+A case is a batch of 30 files, or with `--wrong` of 100 wrong expressions: it is one text for the compilers, since starting these
+takes long. A file is made statement by statement, each of which is tried by c_subset.py from several structs and locals and is kept
+where it isn't Wrong; some of its functions return the value of an expression and no more. It is written, read back by c_subset.py,
+which must give the same trees, and its functions are called with a struct of which most has values. A call that is Wrong is left
+out. gcc and clang, where they are there, compile it by `-std=c99 -pedantic-errors` with -O0, with -O2, and with -O1 and
 `-fsanitize=undefined`. What the calls return and what is in the struct at the end must be what c_subset.py says, and the sanitizers
 must report nothing.
 
 A wrong expression is a random one over a struct that c_subset.py finds to be Wrong in a way that a sanitizer sees: a sum,
 difference, product, negative or quotient that isn't one of its type, a division by 0, an index outside of its array. The sanitizer
-of some compiler must report something where it is evaluated; a compiler may leave out what its value doesn't need.
-
-`int` has 32 bits, as it has for these compilers. A batch of files is one text for the compilers, since starting these takes long. A
-batch follows from the seed and its number alone, so `--first K` begins with batch K. The program writes a line for each difference,
-keeps the text in FOLDER, which is `differences` where nothing is said, and ends with status 1 then. At the end it writes
-what was met."""
+of some compiler must report something where it is evaluated; a compiler may leave out what its value doesn't need. `int` has 32
+bits, as it has for these compilers."""
 import os
 import random
 import re
 import shutil
 import sys
-import tempfile
 from collections import Counter
 
 import beside                                # noqa: F401, which finds the other folders of checks
 import c_subset as c
-from programs import ended, parser, print_counts
+from campaign import Campaign
+from programs import ended
 
 LONGEST = 600               # seconds for one compilation or run
 FILES, EXPRESSIONS = 30, 100  # in one batch
@@ -622,12 +618,11 @@ class Comparison:
     def __init__(self, seed, keep, folder):
         self.seed, self.keep, self.folder = seed, keep, folder
         self.compilers = [each for each in ('gcc', 'clang') if shutil.which(each)]
-        self.met, self.wrong = Counter(), 0
+        self.met = Counter()
 
     def differ(self, name, lines, text):
         if not lines:
             return
-        self.wrong += 1
         os.makedirs(self.keep, exist_ok=True)
         with open(os.path.join(self.keep, 'c %s %s.c' % (self.seed, name)), 'w', encoding='ascii') as file:
             file.write(text)
@@ -746,29 +741,15 @@ def different(expected, told):
     return lines
 
 
-def main(words):
-    """Tries as many batches as are asked for, and gives the status."""
+def add_options(reader):
+    reader.add_argument('--wrong', action='store_true')
+
+
+def campaign(options, folder):
+    """Tries batches of files, or of wrong expressions; main.py calls it."""
     sys.setrecursionlimit(100000)
-    reader = parser(__doc__)
-    reader.add_argument('--seed', default='1')
-    reader.add_argument('--files', type=int, default=0)
-    reader.add_argument('--wrong', type=int, default=0)
-    reader.add_argument('--first', type=int, default=0)
-    reader.add_argument('--keep', metavar='FOLDER', default='differences')
-    options = reader.parse_args(words)
-    with tempfile.TemporaryDirectory(dir='/dev/shm' if os.path.isdir('/dev/shm') else None) as folder:
-        comparison = Comparison(options.seed, options.keep, folder)
-        if not comparison.compilers:
-            raise SystemExit('there is neither gcc nor clang')
-        for batch in range(options.first, options.first + -(-options.files // FILES)):
-            comparison.files(batch)
-        for batch in range(options.first, options.first + -(-options.wrong // EXPRESSIONS)):
-            comparison.expressions(batch)
-    print_counts('compilers ' + ' '.join(comparison.compilers), comparison.met)
-    print('\n%d files, %d wrong expressions, %d differences' % (
-        comparison.met['files'], sum(n for what, n in comparison.met.items() if what.startswith('wrong: ')), comparison.wrong))
-    return 1 if comparison.wrong else 0
-
-
-if __name__ == '__main__':
-    sys.exit(main(sys.argv[1:]))
+    comparison = Comparison(options.seed, options.keep, folder)
+    if not comparison.compilers:
+        raise SystemExit('there is neither gcc nor clang')
+    return Campaign(comparison.expressions if options.wrong else comparison.files,
+                    lambda: {'compilers ' + ' '.join(comparison.compilers): comparison.met})

@@ -1,34 +1,26 @@
-#!/usr/bin/env python3
 """Compares the C that a built `chart_to_c` writes of random charts, by gcc and clang, with the rules.
 
-    python3 checks/random/random_chart_c.py --against CHART_TO_C --charts N [--seed S] [--first M] [--both] [--compilers CC ..]
-                                     [--sanitize K] [--files F] [--largest BYTES] [--jobs J] [--keep FOLDER]
+    python3 checks/random/main.py chart_c --against CHART_TO_C --cases N [--both] [--compilers CC ..] [--sanitize K] [--files F]
+                                          [--largest BYTES]
 
-A chart, its event files and its bounds are made as c_runs.py makes them: they follow from the seed and the chart's number. The C is
-compiled by each compiler, gcc and clang where nothing is said, at -O0 in one half of the charts and at -O2 in the other, or with
---both at both levels in all, with each warning as an error; and of one chart in K, 10 where nothing is said, at the level of its
-half with the sanitizers of addresses and of undefined behaviour too, which end a run that they report. So is the driver of
-chart_c.py. The table of the chart's names, which the driver reads, is compiled once. Each of F event files, 2 where nothing is
-said, is run; the trace, the message and the status must be those of chart_rules.py. Charts of more than BYTES bytes are left out,
-and none where nothing is said. J charts are tried at a time, as many as there are processors where nothing is said; what is written
-is the same for each J.
-
-It writes a line for each difference, keeps the files of it in FOLDER, which is `differences` where nothing is said, and ends with
-status 1 where there is one, or where no chart was tried. At the end it writes how many charts were tried how, and how the runs
-ended."""
+A case is a chart with event files and bounds, made as random_c_runs.py makes them; of one that isn't accepted, or of more than
+BYTES bytes, nothing is compiled. The C is compiled by each compiler, gcc and clang where nothing is said, at -O0 in one half of the
+charts and at -O2 in the other, or with --both at both levels in all, with each warning as an error; and of one chart in K, 10 where
+nothing is said, at the level of its half with the sanitizers of addresses and of undefined behaviour too, which end a run that they
+report. So is the driver of chart_c.py. The table of the chart's names, which the driver reads, is compiled once. Each of F event
+files, 2 where nothing is said, is run; the trace, the message and the status must be those of chart_rules.py."""
 import os
 import random
-import sys
 import tempfile
 from collections import Counter
-from typing import NamedTuple
 
 import beside                                # noqa: F401, which finds the other folders of checks
 import chart_rules as rules
 import random_charts
 from chart_c import FOLDER, LONGEST, WARNINGS, Failed, compile_driver, make_c, output_of, write
 from c_runs import words_for
-from programs import at_least_one, differences, ended, keep_files, parser, print_counts, results_of
+from campaign import Campaign, differ
+from programs import differences, ended
 from random_compiled import bounds_of, features_of
 
 SANITIZERS = ['-fsanitize=undefined,address', '-fno-sanitize-recover=all', '-g']
@@ -53,21 +45,11 @@ def compile_source(source, folder, compiler, flags):
     output_of([compiler, *WARNINGS, *flags, *ALLOWED, '-I', FOLDER, '-c', source, '-o', OBJECT], folder)
 
 
-class Compared(NamedTuple):
-    """What was met of an accepted chart: counts of what it has and how it was compiled, and of how its runs ended, and where anything
-    differs lines that tell it, and the files, by their kind, with the bounds in their name."""
-    charts: Counter
-    runs: Counter
-    lines: list
-    stem: str
-    files: dict
-
-
 class Comparison:
     """Compares a chart in a folder, with a driver that is compiled in the same way."""
 
     def __init__(self, options, folder):
-        self.options, self.folder = options, folder
+        self.options, self.folder, self.charts, self.runs = options, folder, Counter(), Counter()
         self.drivers = {(compiler, *flags): compile_driver(tempfile.mkdtemp(dir=folder), compiler, flags)
                         for compiler in options.compilers for level in LEVELS for flags in ([level], [level, *SANITIZERS])}
 
@@ -81,49 +63,44 @@ class Comparison:
                 yield compiler, [own, *SANITIZERS]
 
     def chart(self, number):
-        """Compares all builds of a chart; None where the chart isn't accepted, or is too long."""
-        (compared,) = rules.with_deep_calls(lambda: [self.compared_chart(number)])
-        return compared
-
-    def compared_chart(self, number):
-        """The same, where calls may nest deeply."""
+        """Compares all builds of a chart, where it is accepted and isn't too long."""
         choices = random.Random('c %s %d' % (self.options.seed, number))
         drawn = random_charts.accepted_text(choices, self.options.largest)
         if drawn is None:
-            return None
+            return
         text, chart = drawn
         files = [random_charts.event_file(choices, chart) for _ in range(self.options.files)]
         bounds = bounds_of(choices)
-        charts = Counter({'all': 1, **dict.fromkeys(features_of(chart), 1)})
-        runs, lines = Counter(), []
+        self.charts.update(['all', *features_of(chart)])
+        lines = []
         with tempfile.TemporaryDirectory(dir=self.folder) as folder:
             try:
                 source, table = make_c(self.options.against, text, folder, words_for(bounds))
                 expected = [rules.run_rules(text, events.encode('latin-1'), *bounds) for events in files]
-                runs.update('status %d %s' % (each.status, each.error.partition(': ')[2].split(' ')[0].strip()) for each in expected)
+                self.runs.update('status %d %s' % (each.status, each.error.partition(': ')[2].split(' ')[0].strip()) for each in expected)
                 output_of(['gcc', *WARNINGS, '-O0', '-I', FOLDER, '-c', table, '-o', TABLE], folder)
                 for compiler, flags in self.builds(number):
-                    lines += self.built_and_run(number, source, folder, compiler, flags, list(zip(files, expected)), charts)
+                    lines += self.built_and_run(number, source, folder, compiler, flags, list(zip(files, expected)))
             except Failed as failed:
                 lines.append('chart %d: %s' % (number, failed))
         contents = {'chart': text.encode('latin-1'), **{'events%d' % n: each.encode('latin-1') for n, each in enumerate(files)}}
-        return Compared(charts, runs, lines, 'c %s %d %d %d' % (self.options.seed, number, *bounds), contents)
+        differ(self.options, 'c %s %d %d %d' % (self.options.seed, number, *bounds), lines, contents)
 
-    def built_and_run(self, number, source, folder, compiler, flags, cases, charts):
+    def built_and_run(self, number, source, folder, compiler, flags, cases):
         """Compiles a chart's source and runs it over its event files; lines that tell what is wrong."""
         name = 'chart %d by %s %s' % (number, compiler, ' '.join(flags))
-        program = self.compiled(source, folder, compiler, flags, charts)
-        charts['by %s %s%s' % (compiler, flags[0], ' with sanitizers' if SANITIZERS[0] in flags else '')] += 1
+        program = self.compiled(source, folder, compiler, flags)
+        self.charts['by %s %s%s' % (compiler, flags[0], ' with sanitizers' if SANITIZERS[0] in flags else '')] += 1
         return [line for events, answer in cases for line in self.ran(name, program, folder, events, answer)]
 
-    def compiled(self, source, folder, compiler, flags, charts):
+    def compiled(self, source, folder, compiler, flags):
         """The program of a chart. Where all that the compiler warns of is said by the chart, it is compiled without warnings."""
         try:
             compile_source(source, folder, compiler, flags)
         except Failed as failed:
             if not is_said_by_chart(str(failed)):
                 raise
-            charts['by %s %s, of which it warns' % (compiler, flags[0])] += 1
+            self.charts['by %s %s, of which it warns' % (compiler, flags[0])] += 1
             compile_source(source, folder, compiler, [*flags, WITHOUT_WARNINGS])
         program = os.path.join(folder, 'program')
         output_of([compiler, *flags, OBJECT, TABLE, self.drivers[(compiler, *flags)], '-o', program], folder)
@@ -138,41 +115,16 @@ class Comparison:
         return differences(name, expected, answer)
 
 
-def main(words):
-    """Compares charts until there are enough, and gives the status."""
-    reader = parser(__doc__)
-    reader.add_argument('--against', metavar='CHART_TO_C', required=True)
-    reader.add_argument('--charts', metavar='N', type=at_least_one, required=True)
-    reader.add_argument('--seed', default='1')
-    reader.add_argument('--first', metavar='M', type=int, default=0)
+def add_options(reader):
+    reader.add_argument('--against', metavar='CHART_TO_C', type=os.path.abspath, required=True)
     reader.add_argument('--both', action='store_true')
     reader.add_argument('--compilers', metavar='CC', nargs='+', default=['gcc', 'clang'])
     reader.add_argument('--sanitize', metavar='K', type=int, default=10)
     reader.add_argument('--files', metavar='F', type=int, default=2)
     reader.add_argument('--largest', metavar='BYTES', type=int, default=0)
-    reader.add_argument('--jobs', metavar='J', type=int, default=os.cpu_count())
-    reader.add_argument('--keep', metavar='FOLDER', default='differences')
-    options = reader.parse_args(words)
-    options.against = os.path.abspath(options.against)
-    charts, runs, wrong, number = Counter(), Counter(), 0, options.first
-    with tempfile.TemporaryDirectory(dir='/dev/shm' if os.path.isdir('/dev/shm') else None) as folder:
-        for each in results_of(Comparison(options, folder).chart, options.first, options.jobs):
-            if charts['all'] >= options.charts:
-                break
-            number += 1
-            if each is None:
-                continue
-            charts.update(each.charts)
-            runs.update(each.runs)
-            if each.lines:
-                wrong += 1
-                keep_files(options.keep, each.stem, each.files)
-                print('\n'.join(each.lines), flush=True)
-    print_counts('charts', charts)
-    print_counts('runs', runs)
-    print('\n%d charts, %d of them with differences; the next chart is %d' % (charts['all'], wrong, number))
-    return 1 if wrong or not charts['all'] else 0
 
 
-if __name__ == '__main__':
-    sys.exit(rules.with_deep_calls(lambda: main(sys.argv[1:])))
+def campaign(options, folder):
+    """Compares charts; main.py calls it."""
+    comparison = Comparison(options, folder)
+    return Campaign(comparison.chart, lambda: {'charts': comparison.charts, 'runs': comparison.runs})

@@ -1,22 +1,20 @@
-#!/usr/bin/env python3
-r"""Random codes with event files, by a seed.
+"""Random codes with event files, by a seed.
 
-    python3 checks/random/random_codes.py --seed A --cases N                       runs N cases and writes what was met
-    python3 checks/random/random_codes.py --seed A --cases N --table               writes the cases as a table for code_machine.py
-    python3 checks/random/random_codes.py --seed A --cases N --against PROGRAM     compares `exec` and `upgrade` of PROGRAM on each case
+    python3 checks/random/main.py codes --seed S --cases N                       tries the reference
+    python3 checks/random/main.py codes --seed S --cases N --against PROGRAM     compares `exec` and `upgrade` of PROGRAM, too
 
 Half of the cases are well-formed codes with good event files. The others are mutated: in the code, where one or more of the
 ten faults are planted at random places; in the text; or in the event file. One case of two thousand has 262,145 procedures,
-and another one of these has 262,144. A case follows from the seed and its own number alone, so `--first M` begins with case M.
+and another one of these has 262,144.
 
 Over every case it is demanded here that a text that is read prints as itself in its own format, that what it prints in
-format 2 is read as the same code, and what code_machine.py demands of every event. A line is written where this isn't so. What
-was met is written as lines of a count and a name: instructions, conditions and operators by their outcome, faults and refusals
+format 2 is read as the same code, and what code_machine.py demands of every event. A line is written where this isn't so, and
+the case as a block of a table for code_machine.py. What was met is counted: instructions, conditions and operators by their outcome, faults and refusals
 by where they stood, line faults, and results of events."""
 import copy
+import os
 import random
 import re
-import sys
 from collections import Counter
 from fractions import Fraction
 
@@ -28,7 +26,7 @@ import declarations as de
 import event_files as ev
 import tables
 from demands import Wrong, demand
-from programs import at_least_one, parser
+from campaign import Campaign
 
 MOST_MOVES = 20000          # for one event of a random code
 
@@ -858,38 +856,19 @@ def wrong_lines(case, met, program):
     return []
 
 
-def print_met(met, cases):
-    for name in sorted(set(met) | set(EXPECTED)):
-        print('%9d  %s' % (met[name], name))
-    missing = [name for name in EXPECTED if not met[name]]
-    print('%d cases, %d of %d kinds not met' % (cases, len(missing), len(EXPECTED)))
+def add_options(reader):
+    reader.add_argument('--against', metavar='PROGRAM', type=os.path.abspath)
 
 
-def main(words):
-    """Does what the words ask for, and gives the status."""
-    reader = parser(__doc__)
-    reader.add_argument('--seed', default='1')
-    reader.add_argument('--cases', type=at_least_one, default=1000)
-    reader.add_argument('--first', type=int, default=0)
-    what = reader.add_mutually_exclusive_group()
-    what.add_argument('--table', action='store_true')
-    what.add_argument('--against', metavar='PROGRAM')
-    options = reader.parse_args(words)
-    met = Counter()
-    wrong = 0
-    for number in range(options.first, options.first + options.cases):
-        case = Case(options.seed, number)
-        lines = wrong_lines(case, met, options.against)
-        wrong += bool(lines)
-        if options.table:
-            sys.stderr.writelines(line + '\n' for line in lines)
-            print('\n'.join(case.table()))
-        elif lines:
-            print('\n'.join(lines + (case.table() if len(case.text) < 20000 else ['(the text is long)'])))
-    if not options.table:
-        print_met(met, options.cases)
-    return 1 if wrong else 0
+def try_case(options, number, met):
+    """Tries a case, and writes it where anything is wrong."""
+    case = Case(options.seed, number)
+    lines = wrong_lines(case, met, options.against)
+    if lines:
+        print('\n'.join(lines + (case.table() if len(case.text) < 20000 else ['(the text is long)'])))
 
 
-if __name__ == '__main__':
-    sys.exit(main(sys.argv[1:]))
+def campaign(options, _folder):
+    """Tries codes; main.py calls it."""
+    met = Counter({name: 0 for name in EXPECTED})
+    return Campaign(lambda number: try_case(options, number, met), lambda: {'codes': met})

@@ -1,27 +1,19 @@
-#!/usr/bin/env python3
-r"""Compares the commands of a built program with each other on random charts and event files.
+"""Compares the commands of a built program with each other on random charts and event files.
 
-    python3 checks/random/random_compiled.py --seed S --cases N --against PROGRAM [--files K] [--plain] [--first M] [--keep FOLDER]
+    python3 checks/random/main.py compiled --seed S --cases N --against PROGRAM [--files K] [--plain]
 
-A case is an accepted chart with an event file and bounds, which are the default ones in half of the cases. `rules CHART
-EVENTS`, `run CHART EVENTS`, and `exec CODE EVENTS` with the CODE that `compile CHART` writes must give the same status,
-standard output and standard error. `upgrade CODE` must write CODE. A status that none of these commands has, such as that of
-a killed process, is a difference too, and so is a command that doesn't end in time. Where a chart is refused, `check`,
-`rules`, `run` and `compile` must tell the fault that chart_check.py tells. For one chart in twenty its text is read by
-chart_syntax.py, the code is also read and printed by code_text.py, and the traces are compared with those of
-code_machine.py, which runs the code, and of chart_rules.py, which runs the chart. With `--plain` the charts have neither
+A case is a chart with K event files, 4 where nothing is said, or fewer where its start ends with a fault, each with bounds, which
+are the default ones in half of them. `rules CHART EVENTS`, `run CHART EVENTS`, and `exec CODE EVENTS` with the CODE that
+`compile CHART` writes must give the same status, standard output and standard error. `upgrade CODE` must write CODE. A status that
+none of these commands has, such as that of a killed process, is a difference too, and so is a command that doesn't end in time.
+Where a chart is refused, `check`, `rules`, `run` and `compile` must tell the fault that chart_check.py tells. For one chart in
+twenty its text is read by chart_syntax.py, the code is also read and printed by code_text.py, and the traces are compared with
+those of code_machine.py, which runs the code, and of chart_rules.py, which runs the chart. With `--plain` the charts have neither
 junctions nor sends, which are taken out of those that were made.
 
-A chart has K event files, 4 where nothing is said, or fewer where its start ends with a fault. Charts are made by
-random_charts.py; one in ten is changed, so that it is mostly refused. A chart, its event files and the bounds follow from the
-seed and the chart's own number alone, so `--first M` begins with chart M.
-
-The program ends with status 1 where anything differs. It writes a line for each difference, keeps the files of it in FOLDER,
-which is `differences` where nothing is said, and writes how many of the charts and cases had what."""
+Charts are made by random_charts.py; one in ten is changed, so that it is mostly refused."""
 import os
 import random
-import sys
-import tempfile
 from collections import Counter
 
 import beside                                # noqa: F401, which finds the other folders of checks
@@ -31,10 +23,11 @@ import chart_syntax as syntax
 import code_machine
 import code_text
 import random_charts
-from programs import Ended, at_least_one, differences, ended, keep_files, parser, print_counts, status_text
+from c_runs import DEFAULT_BOUNDS
+from campaign import Campaign
+from programs import Ended, differences, ended, keep_files, status_text
 
 USUAL_FILES = 4
-DEFAULT_BOUNDS = (rules.DEFAULT_DEPTH, rules.DEFAULT_STEPS)
 ONE_IN = 20
 LONGEST = 120               # seconds for one command
 RAN = (0, 1, 3)             # the statuses of a command whose chart or code is accepted
@@ -254,38 +247,19 @@ class Comparison:
             self.cases['ends with the fault %s at %s' % (what.split(' ')[0], place)] += 1
         return stopped
 
-    def print_counts(self):
-        print_counts('charts', self.charts)
-        print_counts('cases', self.cases)
-        missing = [each for each in rules.CASES if not self.met[each]]
-        print('\ncases of the rules that chart_rules.py met: %d of %d' % (len(rules.CASES) - len(missing), len(rules.CASES)))
-        print(''.join('       no  %s\n' % each for each in missing), end='')
-        print('\n%d cases of %d charts, %d differences' % (self.cases['all'], self.charts['accepted'], self.wrong))
+    def counts(self):
+        """What was met, by titles."""
+        return {'charts': self.charts, 'cases': self.cases,
+                'cases of the rules that chart_rules.py met': Counter({each: self.met[each] for each in rules.CASES})}
 
 
-def main(words):
-    """Compares cases until there are enough, and gives the status."""
-    reader = parser(__doc__)
-    reader.add_argument('--against', metavar='PROGRAM', required=True)
-    reader.add_argument('--seed', default='1')
-    reader.add_argument('--cases', type=at_least_one, default=1000)
-    reader.add_argument('--files', type=int, default=USUAL_FILES)
+def add_options(reader):
+    reader.add_argument('--against', metavar='PROGRAM', type=os.path.abspath, required=True)
+    reader.add_argument('--files', metavar='K', type=int, default=USUAL_FILES)
     reader.add_argument('--plain', action='store_true')
-    reader.add_argument('--first', type=int, default=0)
-    reader.add_argument('--keep', metavar='FOLDER', default='differences')
-    options = reader.parse_args(words)
-    number = options.first
-    print('seed %s, from chart %d on' % (options.seed, number), flush=True)
-    with tempfile.TemporaryDirectory(dir='/dev/shm' if os.path.isdir('/dev/shm') else None) as folder:
-        program = Program(options.against, folder)
-        comparison = Comparison(program, options.seed, options.files, options.keep, options.plain)
-        while comparison.cases['all'] < options.cases:
-            comparison.chart(number, options.cases - comparison.cases['all'])
-            number += 1
-    comparison.print_counts()
-    print('the next chart is %d' % number)
-    return 1 if comparison.wrong else 0
 
 
-if __name__ == '__main__':
-    sys.exit(rules.with_deep_calls(lambda: main(sys.argv[1:])))
+def campaign(options, folder):
+    """Compares charts; main.py calls it."""
+    comparison = Comparison(Program(options.against, folder), options.seed, options.files, options.keep, options.plain)
+    return Campaign(lambda number: comparison.chart(number, options.files), comparison.counts)

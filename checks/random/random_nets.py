@@ -1,7 +1,6 @@
-#!/usr/bin/env python3
-r"""Random nets of charts over random schedules.
+"""Random nets of charts over random schedules.
 
-    python3 checks/random/random_nets.py --seed S --cases N [--against PROGRAM] [--first M] [--keep FOLDER]
+    python3 checks/random/main.py nets --seed S --cases N [--against PROGRAM]
 
 A case is a net text with its chart files, a schedule, and the words of the command. The charts are taken of 400, which follow from
 the seed and a number each: most are made here, so that their events and data fit those of others, and one in four is of
@@ -14,16 +13,10 @@ chart_rules.py, over the events that it was given; on each route what was got is
 front of the values of the output that the chart emitted, one for each time.
 
 With `--against PROGRAM` the program does `net` with these words on these files, and its answer must be that of nets.py; and where
-the law is tried, `PROGRAM rules` must write the trace that each chart has alone.
-
-A case follows from the seed and its own number alone, so `--first M` begins with case M. The program ends with status 1 where
-anything is wrong. It writes lines for each such case, keeps its files and its words in FOLDER, which is `differences` where nothing
-is said, and writes how many of the cases had what."""
+the law is tried, `PROGRAM rules` must write the trace that each chart has alone."""
 import os
 import random
 import re
-import sys
-import tempfile
 from collections import Counter
 from functools import lru_cache
 
@@ -33,7 +26,8 @@ import chart_rules as rules
 import chart_syntax as syntax
 import nets
 import random_charts
-from programs import at_least_one, differences, ended, parser, print_counts
+from campaign import Campaign
+from programs import differences, ended
 
 LONGEST = 120               # seconds for one command
 CHARTS, REFUSED, ANY_START = 400, 0, 4
@@ -377,15 +371,13 @@ class Comparison:
     """Tries cases, and counts what was met."""
 
     def __init__(self, program, seed, keep, folder):
-        self.program = program and os.path.abspath(program)
-        self.seed, self.keep, self.folder = seed, keep, folder
-        self.cases, self.runs, self.wrong = Counter(), Counter(), 0
+        self.program, self.seed, self.keep, self.folder = program, seed, keep, folder
+        self.cases, self.runs = Counter(), Counter()
 
     def differ(self, number, lines, files):
-        """Counts and writes what is wrong, and keeps its files."""
+        """Writes what is wrong, and keeps its files."""
         if not lines:
             return
-        self.wrong += 1
         where = os.path.join(self.keep, 'net %s %d' % (self.seed, number))
         os.makedirs(where, exist_ok=True)
         self.write(where, files)
@@ -451,28 +443,12 @@ class Comparison:
                                      self.run(['rules', 'chart', 'events', *options], files))
         return wrong
 
-    def print_counts(self):
-        print_counts('answers', self.cases)
-        print_counts('runs', self.runs)
-        print('\n%d cases, %d wrong' % (sum(self.cases.values()), self.wrong))
+
+def add_options(reader):
+    reader.add_argument('--against', metavar='PROGRAM', type=os.path.abspath)
 
 
-def main(words):
-    """Tries as many cases as are asked for, and gives the status."""
-    reader = parser(__doc__)
-    reader.add_argument('--against', metavar='PROGRAM')
-    reader.add_argument('--seed', default='1')
-    reader.add_argument('--cases', type=at_least_one, default=1000)
-    reader.add_argument('--first', type=int, default=0)
-    reader.add_argument('--keep', metavar='FOLDER', default='differences')
-    options = reader.parse_args(words)
-    with tempfile.TemporaryDirectory(dir='/dev/shm' if os.path.isdir('/dev/shm') else None) as folder:
-        comparison = Comparison(options.against, options.seed, options.keep, folder)
-        for number in range(options.first, options.first + options.cases):
-            comparison.case(number)
-    comparison.print_counts()
-    return 1 if comparison.wrong else 0
-
-
-if __name__ == '__main__':
-    sys.exit(rules.with_deep_calls(lambda: main(sys.argv[1:])))
+def campaign(options, folder):
+    """Tries nets; main.py calls it."""
+    comparison = Comparison(options.against, options.seed, options.keep, folder)
+    return Campaign(comparison.case, lambda: {'answers': comparison.cases, 'runs': comparison.runs})

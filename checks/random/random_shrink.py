@@ -1,27 +1,19 @@
-#!/usr/bin/env python3
-r"""Smaller codes of random codes and of the codes of random charts.
+"""Smaller codes of random codes and of the codes of random charts.
 
-    python3 checks/random/random_shrink.py --seed S --codes N [--against PROGRAM] [--first M] [--keep FOLDER]
-    python3 checks/random/random_shrink.py --seed S --charts N --against PROGRAM [--first M] [--keep FOLDER]
+    python3 checks/random/main.py shrink --seed S --cases N [--against PROGRAM]
+    python3 checks/random/main.py shrink --charts --seed S --cases N --against PROGRAM
 
-A case of `--codes` is a well-formed code of random_codes.py in which more or fewer tests are known before any run and more or fewer
-skips stand, with two event files and bounds. One in ten has a fault in the code or in its text. A case of `--charts` is what
+A case is a well-formed code of random_codes.py in which more or fewer tests are known before any run and more or fewer
+skips stand, with two event files and bounds. One in ten has a fault in the code or in its text. With `--charts` it is what
 `PROGRAM compile` writes of a chart of random_charts.py, with two event files and the default bounds.
 
 What `PROGRAM shrink` writes, and without a program what shrink.py writes, must be as it must by shrink.py. That again must be
-written as it is, by the program and by shrink.py. A text that differs from that of shrink.py is counted, but isn't wrong by itself.
-
-A case follows from the seed and its own number alone, so `--first M` begins with case M. The program ends with status 1 where
-anything is wrong. It writes a line for each such case, keeps its files in FOLDER, which is `differences` where nothing is said, and
-writes how many of the codes had what."""
+written as it is, by the program and by shrink.py. A text that differs from that of shrink.py is counted, but isn't wrong by itself."""
 import os
-import sys
-import tempfile
 from collections import Counter
 
 import beside                                # noqa: F401, which finds the other folders of checks
 import chart_check as check
-import chart_rules as rules
 import code_acceptance as ca
 import code_machine as cm
 import code_text as ct
@@ -29,7 +21,8 @@ import declarations as de
 import random_charts
 import random_codes
 import shrink
-from programs import ended, keep_files, parser, print_counts
+from campaign import Campaign
+from programs import ended, keep_files
 
 LONGEST = 120               # seconds for one command
 DEFAULT_BOUNDS = (cm.DEFAULT_DEPTH, cm.DEFAULT_STEPS)
@@ -69,16 +62,13 @@ class Comparison:
     """Tries codes, and counts what was met."""
 
     def __init__(self, program, seed, keep, folder):
-        self.program = program and os.path.abspath(program)
-        self.seed, self.keep, self.folder = seed, keep, folder
+        self.program, self.seed, self.keep, self.folder = program, seed, keep, folder
         self.met = Counter()
-        self.wrong = 0
 
     def differ(self, name, lines, **contents):
-        """Counts and writes what is wrong, and keeps its files."""
+        """Writes what is wrong, and keeps its files."""
         if not lines:
             return
-        self.wrong += 1
         keep_files(self.keep, 'shrink %s %s' % (self.seed, name), contents)
         print('\n'.join('%s: %s' % (name, line) for line in lines), flush=True)
 
@@ -155,34 +145,15 @@ class Comparison:
         runs = [(random_charts.event_file(choices, chart).encode('latin-1'), DEFAULT_BOUNDS) for _ in range(2)]
         self.code('chart %d' % number, code, runs)
 
-    def print_counts(self):
-        print_counts('codes', self.met)
-        print('\n%d codes, %d refused, %d wrong' % (self.met['codes'], self.met['refused'], self.wrong))
+
+def add_options(reader):
+    reader.add_argument('--against', metavar='PROGRAM', type=os.path.abspath)
+    reader.add_argument('--charts', action='store_true')
 
 
-def main(words):
-    """Tries as many cases as are asked for, and gives the status."""
-    reader = parser(__doc__)
-    reader.add_argument('--against', metavar='PROGRAM')
-    reader.add_argument('--seed', default='1')
-    reader.add_argument('--codes', type=int, default=0)
-    reader.add_argument('--charts', type=int, default=0)
-    reader.add_argument('--first', type=int, default=0)
-    reader.add_argument('--keep', metavar='FOLDER', default='differences')
-    options = reader.parse_args(words)
+def campaign(options, folder):
+    """Tries codes, or what the program compiles of charts; main.py calls it."""
     if options.charts and not options.against:
-        reader.error('--charts needs a program that compiles')
-    if options.charts < 1 and options.codes < 1:
-        reader.error('there is nothing to try')
-    with tempfile.TemporaryDirectory(dir='/dev/shm' if os.path.isdir('/dev/shm') else None) as folder:
-        comparison = Comparison(options.against, options.seed, options.keep, folder)
-        for number in range(options.first, options.first + options.codes):
-            comparison.random_code(number)
-        for number in range(options.first, options.first + options.charts):
-            comparison.random_chart(number)
-    comparison.print_counts()
-    return 1 if comparison.wrong else 0
-
-
-if __name__ == '__main__':
-    sys.exit(rules.with_deep_calls(lambda: main(sys.argv[1:])))
+        raise SystemExit('--charts needs a program that compiles')
+    comparison = Comparison(options.against, options.seed, options.keep, folder)
+    return Campaign(comparison.random_chart if options.charts else comparison.random_code, lambda: {'codes': comparison.met})

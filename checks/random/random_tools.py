@@ -1,7 +1,6 @@
-#!/usr/bin/env python3
 """Runs the tools of the folder view over random charts, for a check that .ci/run doesn't make.
 
-    python3 checks/random/random_tools.py --cases 1000 --seed 1 --against PROGRAM
+    python3 checks/random/main.py tools --seed 1 --cases 1000 --against PROGRAM [--runs K] [--tests SECONDS]
 
 A case is a chart of random_charts.py with an event file. flowwhy explains whatever PROGRAM refuses of it, and its first message
 must be that of PROGRAM's line. Of an accepted chart flowlint gives its warnings, and then the chart runs over random event files
@@ -9,18 +8,16 @@ by the rules: no transition may be enabled that flowlint calls never taken, no s
 be visited that it calls never reached; a search that comes to a junction which it calls endless must end with a fault; no condition
 may be otherwise than it says that it always is; no during action may run that it calls never run, and no state beside one be
 entered of which it says that nothing leaves it. flowtrace must give back each trace. With `--tests SECONDS` flowtests searches so
-long for each accepted chart, and no run may cover what it says can't come. It writes counts, and ends with status 1 where anything
-is wrong."""
+long for each accepted chart, and no run may cover what it says can't come."""
 import os
 import random
 import sys
-import tempfile
 from collections import Counter
 
 sys.path.insert(0, os.path.join(os.path.dirname(os.path.abspath(__file__)), '..', '..', 'view'))
 import beside                                # noqa: F401, which finds the other folders of checks
 import chart_rules as rules                                                       # noqa: E402
-import programs                                                                   # noqa: E402
+from campaign import Campaign                                                     # noqa: E402
 from chart_syntax import WITH_HISTORY                                             # noqa: E402
 from checking.layout_rows import wrong_random                                      # noqa: E402
 from checking.server_rows import wrong_answers                                    # noqa: E402
@@ -162,33 +159,28 @@ def wrong_at_the_desk(text, name, counts):
     yield wrong
 
 
-def main():
-    parser = programs.parser(__doc__)
-    parser.add_argument('--cases', type=programs.at_least_one, default=1000)
-    parser.add_argument('--first', type=int, default=0)
-    parser.add_argument('--seed', default='1')
-    parser.add_argument('--runs', type=int, default=20)
-    parser.add_argument('--tests', type=float, default=0, metavar='SECONDS')
-    parser.add_argument('--against', required=True, metavar='PROGRAM')
-    given = parser.parse_args()
-    counts, wrong = Counter(), 0
-    with tempfile.TemporaryDirectory() as folder:
-        for place in range(given.first, given.first + given.cases):
-            text, chart, data, depth, steps = made_case(given.seed, place, WITH_HISTORY)
-            found = [wrong_explanation(os.path.abspath(given.against), folder, text, data, depth, steps, counts)]
-            found += wrong_at_the_desk(text, '%s %d' % (given.seed, place), counts)
-            if chart:
-                counts['accepted'] += 1
-                name = '%s %d' % (given.seed, place)
-                found += wrong_runs(text, chart, name, depth, steps, given.runs, counts)
-                if given.tests:
-                    found += wrong_tests(text, name, depth, steps, given.tests, given.runs, counts)
-            for each in filter(None, dict.fromkeys(found)):
-                print('case %d: %s' % (place, each), flush=True)
-                wrong += 1
-    programs.print_counts('%d charts, %d of them wrong' % (given.cases, wrong), counts)
-    return 1 if wrong else 0
+def add_options(reader):
+    reader.add_argument('--against', required=True, metavar='PROGRAM', type=os.path.abspath)
+    reader.add_argument('--runs', type=int, default=20)
+    reader.add_argument('--tests', type=float, default=0, metavar='SECONDS')
 
 
-if __name__ == '__main__':
-    sys.exit(rules.with_deep_calls(main))
+def try_case(given, folder, place, counts):
+    """Tries a case, and writes what is wrong of it."""
+    text, chart, data, depth, steps = made_case(given.seed, place, WITH_HISTORY)
+    name = '%s %d' % (given.seed, place)
+    found = [wrong_explanation(given.against, folder, text, data, depth, steps, counts)]
+    found += wrong_at_the_desk(text, name, counts)
+    if chart:
+        counts['accepted'] += 1
+        found += wrong_runs(text, chart, name, depth, steps, given.runs, counts)
+        if given.tests:
+            found += wrong_tests(text, name, depth, steps, given.tests, given.runs, counts)
+    for each in filter(None, dict.fromkeys(found)):
+        print('case %d: %s' % (place, each))
+
+
+def campaign(options, folder):
+    """Tries the tools; main.py calls it."""
+    counts = Counter()
+    return Campaign(lambda number: try_case(options, folder, number, counts), lambda: {'tools': counts})

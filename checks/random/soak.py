@@ -61,6 +61,7 @@ import random_codes
 import random_compiled
 import random_nets
 from demands import Wrong
+from campaign import Campaign
 from programs import Ended, differences, parser, print_counts, waited
 
 KINDS = {'chart': 6, 'code': 4, 'hostile chart': 4, 'hostile code': 3, 'hostile events': 3, 'net': 4, 'hostile net': 3, 'words': 3}
@@ -546,7 +547,8 @@ class Soak:
               % (self.seed, cases, (time.time() - began) / 60, sum(program.calls.values())))
         print_counts('cases', self.kinds)
         print_counts('met', self.found)
-        self.comparison.print_counts()
+        for title, counts in self.comparison.counts().items():
+            print_counts(title, counts)
         print('\n%-12s %8s  %-44s %12s %12s' % ('command', 'calls', 'of each status', 'most seconds', 'most memory'))
         for command in sorted(program.seconds):
             statuses = {status: count for (each, status), count in program.calls.items() if each == command}
@@ -559,23 +561,37 @@ class Soak:
         print('%d differences, %d answers that are none' % (self.comparison.wrong, self.bad))
 
 
+def add_options(reader):
+    reader.add_argument('--against', metavar='PROGRAM', type=os.path.abspath, required=True)
+    reader.add_argument('--chart-to-c', metavar='CHART_TO_C', type=os.path.abspath)
+    reader.add_argument('--longest', type=int, default=60)
+
+
+def soak_of(options, folder):
+    return Soak(Measured(options.against, folder, options.longest, options.chart_to_c), options.seed, options.keep)
+
+
+def campaign(options, folder):
+    """Tries so many cases; main.py calls it."""
+    soak = soak_of(options, folder)
+    return Campaign(soak.case, lambda: {'cases': soak.kinds, 'met': soak.found, **soak.comparison.counts(), 'calls of the program': Counter(
+        {'%s, status %s' % each: count for each, count in soak.program.calls.items()})})
+
+
 def main(words):
     """Runs cases until the time is over, and gives the status."""
     reader = parser(__doc__)
-    reader.add_argument('--against', metavar='PROGRAM', required=True)
-    reader.add_argument('--chart-to-c', metavar='CHART_TO_C')
+    add_options(reader)
     reader.add_argument('--minutes', type=float, default=60)
     reader.add_argument('--seed', default='1')
     reader.add_argument('--first', type=int, default=0)
     reader.add_argument('--cases', type=int, default=0)
-    reader.add_argument('--longest', type=int, default=60)
     reader.add_argument('--keep', metavar='FOLDER', default='differences')
     options = reader.parse_args(words)
     began, first, most = time.time(), options.first, options.cases
     print('seed %s, from case %d on' % (options.seed, first), flush=True)
     with tempfile.TemporaryDirectory(dir='/dev/shm' if os.path.isdir('/dev/shm') else None) as folder:
-        program = Measured(options.against, folder, options.longest, options.chart_to_c)
-        soak, number = Soak(program, options.seed, options.keep), first
+        soak, number = soak_of(options, folder), first
         while time.time() - began < 60 * options.minutes and not (most and number - first >= most):
             soak.case(number)
             number += 1

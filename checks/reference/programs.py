@@ -1,5 +1,5 @@
-"""What the scripts that run a built program share: their words, running it under a limit of time, trying many cases at a time,
-comparing what it writes with what is expected, keeping the files of a case, and printing counts."""
+"""What the scripts that run a built program share: their words, running it under a limit of time, comparing what it writes with
+what is expected, keeping the files of a case, and printing counts."""
 import argparse
 import os
 import signal
@@ -7,9 +7,6 @@ import subprocess
 import sys
 import tempfile
 import threading
-from collections import deque
-from concurrent.futures import ProcessPoolExecutor
-from itertools import count
 from typing import NamedTuple, Optional
 
 LONGEST = 600               # seconds for one call, where nothing else is said
@@ -110,21 +107,6 @@ def waited(process, seconds):
     _, status, used = os.wait4(process.pid, 0)
     process.returncode = os.waitstatus_to_exitcode(status)
     return process.returncode, used, late.is_set() and process.returncode == -signal.SIGKILL
-
-
-# ---- many cases
-
-def results_of(work, first, jobs):
-    """What the work gives for each number from the first on, in their order. So many processes do it, and go on a little ahead."""
-    with ProcessPoolExecutor(jobs) as processes:
-        ahead = deque(processes.submit(work, number) for number in range(first, first + 2 * jobs))
-        try:
-            for number in count(first + 2 * jobs):
-                yield ahead.popleft().result()
-                ahead.append(processes.submit(work, number))
-        finally:
-            for each in ahead:
-                each.cancel()
 
 
 # ---- comparing

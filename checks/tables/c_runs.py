@@ -2,38 +2,30 @@
 """Runs the C that a built `chart_to_c` writes of charts by the words of docs/C_SUBSET.md alone, and compares the traces.
 
     python3 checks/tables/c_runs.py --against CHART_TO_C CHART ..
-    python3 checks/tables/c_runs.py --against CHART_TO_C --random N [--seed S] [--first M] [--jobs J] [--keep FOLDER]
 
 c_subset.py reads the header and the source and runs them. It refuses what isn't in the grammar of the page, and stops at what has
 no rule there. The event file is read and the trace is written by chart_rules.py, with the states and the values of the struct.
-After the last event each number that is no event must be refused, and where the run is over each number, and a second start. The
-first form runs charts over the event files that stand beside them, and compares with the traces there. The second form makes N
-random charts with event files and bounds as random_compiled.py does, without the changes that a chart would be refused for, and
-compares with what chart_rules.py writes of the chart; a chart and its events follow from the seed and its number. J charts are run
-at a time, as many as there are processors where nothing is said; what is written is the same for each J.
+After the last event each number that is no event must be refused, and where the run is over each number, and a second start. Each
+chart is run over the event file that stands beside it, and compared with the trace there. random_c_runs.py does the same of random
+charts.
 
-The program ends with status 1 where anything differs and where there is no chart. The files of a random chart that differs are kept
-in FOLDER, which is `differences` where nothing is said. A chart takes about half a second of a processor."""
+The program ends with status 1 where anything differs. A chart takes about half a second of a processor."""
 import os
-import random
 import sys
 import tempfile
 from fractions import Fraction
-from functools import partial
-from typing import NamedTuple
 
 import beside                                # noqa: F401, which finds the other folders of checks
 import c_subset
 import chart_rules as rules
-import random_charts
 from c_subset import ENDINGS, Run, ending
 from chart_c import Failed, Kept, c_name, field_of, make_c, state_name
 from chart_check import check_chart
-from programs import Ended, differences, keep_files, parser, results_of
-from random_compiled import DEFAULT_BOUNDS, bounds_of
+from programs import Ended, differences, parser
 
 FUEL = 100000
 FAULTS = {1: 'depth', 2: 'steps', 3: 'overflow', 4: 'zero'}
+DEFAULT_BOUNDS = (rules.DEFAULT_DEPTH, rules.DEFAULT_STEPS)
 NO_EVENT = 5                # the fault of a number that is no event
 GREATEST = 2 ** 32 - 1
 
@@ -131,66 +123,19 @@ def words_for(bounds):
     return [] if bounds == DEFAULT_BOUNDS else ['--depth', str(bounds[0]), '--steps', str(bounds[1])]
 
 
-class Compared(NamedTuple):
-    """Lines that tell what is wrong of an accepted random chart, what its files are called, and the files, by their kind."""
-    lines: list
-    stem: str
-    files: dict
-
-
-def compare_chart(seed, program, number):
-    """Compares a random chart, which has an event file and bounds; None where the chart isn't accepted."""
-    choices = random.Random('c %s %d' % (seed, number))
-    drawn = random_charts.accepted_text(choices)
-    if drawn is None:
-        return None
-    text, chart = drawn
-    events, bounds = random_charts.event_file(choices, chart), bounds_of(choices)
-    expected = rules.run_rules(text, events.encode('latin-1'), *bounds)
-    lines = compared('chart %d' % number, program, text, events, expected, words_for(bounds))
-    contents = {'chart': text.encode('latin-1'), 'events': events.encode('latin-1')}
-    return Compared(lines, 'c %s %d %d %d' % (seed, number, *bounds), contents)
-
-
-def compare_random(seed, program, number):
-    """The same, where calls may nest deeply."""
-    (answer,) = rules.with_deep_calls(lambda: [compare_chart(seed, program, number)])
-    return answer
-
-
-def compare_all(options):
-    """Compares random charts, and gives how many there were and the lines that tell what is wrong."""
-    seen, wrong = 0, []
-    for each in results_of(partial(compare_random, options.seed, options.against), options.first, options.jobs):
-        if seen == options.random:
-            return seen, wrong
-        if each is not None:
-            seen += 1
-            wrong += each.lines
-            if each.lines:
-                keep_files(options.keep, each.stem, each.files)
-                print('\n'.join(each.lines), flush=True)
-
-
 def main(words):
     """Does what the words ask for, and gives the status."""
     reader = parser(__doc__)
-    reader.add_argument('--against', metavar='CHART_TO_C', required=True)
-    reader.add_argument('--random', metavar='N', type=int, default=0)
-    reader.add_argument('--seed', default='1')
-    reader.add_argument('--first', metavar='M', type=int, default=0)
-    reader.add_argument('--jobs', metavar='J', type=int, default=os.cpu_count())
-    reader.add_argument('--keep', metavar='FOLDER', default='differences')
-    reader.add_argument('charts', metavar='CHART', nargs='*')
+    reader.add_argument('--against', metavar='CHART_TO_C', type=os.path.abspath, required=True)
+    reader.add_argument('charts', metavar='CHART', nargs='+')
     options = reader.parse_args(words)
-    options.against = os.path.abspath(options.against)
-    seen, wrong = compare_all(options) if options.random else (0, [])
+    wrong = []
     for case in map(Kept, options.charts):
         lines = compared(case.name, options.against, *case.texts())
         print(''.join(line + '\n' for line in lines), end='', flush=True)
-        seen, wrong = seen + 1, wrong + lines
-    print('%d charts%s' % (seen, '' if wrong or not seen else ', with the traces that are expected'))
-    return 1 if wrong or not seen else 0
+        wrong += lines
+    print('%d charts%s' % (len(options.charts), '' if wrong else ', with the traces that are expected'))
+    return 1 if wrong else 0
 
 
 if __name__ == '__main__':

@@ -1,8 +1,6 @@
 #!/usr/bin/env python3
-"""Holds the comments of the C that a built `chart_to_c` writes of random charts against what its functions are called with.
+"""Holds the comments of the C that a built `chart_to_c` writes of charts against what its functions are called with.
 
-    python3 checks/tables/comments.py --against CHART_TO_C --charts N [--seed S] [--first M] [--largest BYTES] [--events E] [--jobs J]
-                               [--keep FOLDER]
     python3 checks/tables/comments.py --against CHART_TO_C CHART .. [--seed S] [--events E]
 
 The comment above a function names the event and the home for which it is, where it is for one alone: `, where the event is GO`, `,
@@ -12,12 +10,9 @@ others. Each function is given a test that its parameters `event` and `home` are
 that takes the place of a call of itself. The C is compiled by gcc, and starts and takes E random events of the chart or ticks,
 2,000 where nothing is said, with random values of the inputs; after a fault it starts again.
 
-A random chart and its bounds are made as c_runs.py makes them: they follow from the seed and the chart's number. Charts of more
-than BYTES bytes are left out, and none where nothing is said. J charts are tried at a time, as many as there are processors where
-nothing is said; what is written is the same for each J. A line tells each function that is called with another event or home than
-its comment names, and the chart is kept in FOLDER, which is `differences` where nothing is said. At the end stands how many
-comments name something, and how many functions were called. The program ends with status 1 where a comment is wrong, and where no
-comment was tried. A chart takes about a second of a processor."""
+A line tells each function that is called with another event or home than its comment names. At the end stands how many comments
+name something, and how many functions were called. The program ends with status 1 where a comment is wrong, and where no comment
+was tried. random_comments.py does the same of random charts. A chart takes about a second of a processor."""
 import os
 import random
 import re
@@ -28,12 +23,10 @@ from typing import NamedTuple
 
 import beside                                # noqa: F401, which finds the other folders of checks
 import chart_rules as rules
-import random_charts
-from c_runs import words_for
+from c_runs import DEFAULT_BOUNDS, words_for
 from chart_c import Failed, c_name, field_of, output_of, write
 from chart_check import check_chart
-from programs import at_least_one, keep_files, parser, print_counts, results_of
-from random_compiled import DEFAULT_BOUNDS, bounds_of
+from programs import at_least_one, parser, print_counts
 
 FUNCTION = re.compile(r'/\* ((?:(?!\*/).)*) \*/\n(?:static )?\w+ (\w+)\(([^)]*)\)\n\{\n(.*?)^\}\n', re.DOTALL | re.MULTILINE)
 SAID = re.compile(r'(?P<part>.*?(?:, the actions noted there)?)'
@@ -192,14 +185,6 @@ def program_of(chart, source, seed, turns):
     return source.replace(include, include + BEFORE % parts) + AFTER % parts, functions
 
 
-class Compared(NamedTuple):
-    """What was met of a chart: counts, lines that tell what is wrong, what its file is called, and the file, by its kind."""
-    counts: Counter
-    lines: list
-    stem: str
-    files: dict
-
-
 class Comparison:
     """Compares charts by a built program, in folders below one."""
 
@@ -239,64 +224,32 @@ class Comparison:
         return ['%s: %s, %s: called where %s' % (name, functions[place].name, functions[place].words, numbers.called_with(event, home))
                 for place, event, home in wrong], counts
 
-    def random_chart(self, number):
-        """Compares a random chart; None where the chart isn't accepted, or is too long."""
-        (compared,) = rules.with_deep_calls(lambda: [self.compared_chart(number)])
-        return compared
 
-    def compared_chart(self, number):
-        """The same, where calls may nest deeply."""
-        choices = random.Random('c %s %d' % (self.options.seed, number))
-        drawn = random_charts.accepted_text(choices, self.options.largest)
-        if drawn is None:
-            return None
-        text, _ = drawn
-        bounds = bounds_of(choices)
-        lines, counts = self.compared('chart %d' % number, text, bounds, choices.randrange(1, 2 ** 63))
-        return Compared(counts, lines, 'c %s %d %d %d' % (self.options.seed, number, *bounds), {'chart': text.encode('latin-1')})
-
-
-def tried(options, folder):
-    """What was met of each chart that the words name."""
-    comparison = Comparison(options, folder)
-    for path in options.paths:
-        with open(path, 'rb') as file:
-            lines, counts = comparison.compared(path, file.read().decode('latin-1'), DEFAULT_BOUNDS,
-                                                random.Random(options.seed).randrange(1, 2 ** 63))
-        yield Compared(counts, lines, path, {})
-    seen = 0
-    for each in results_of(comparison.random_chart, options.first, options.jobs) if options.charts else ():
-        if each is not None:
-            yield each
-            seen += 1
-        if seen == options.charts:
-            return
+def add_options(reader):
+    """What a reader of words has of this program and of random_comments.py."""
+    reader.add_argument('--against', metavar='CHART_TO_C', type=os.path.abspath, required=True)
+    reader.add_argument('--events', metavar='E', type=at_least_one, default=2000)
 
 
 def main(words):
     """Compares charts, and gives the status."""
     reader = parser(__doc__)
-    reader.add_argument('--against', metavar='CHART_TO_C', required=True)
-    reader.add_argument('--charts', metavar='N', type=at_least_one, default=0)
     reader.add_argument('--seed', default='1')
-    reader.add_argument('--first', metavar='M', type=int, default=0)
-    reader.add_argument('--largest', metavar='BYTES', type=int, default=0)
-    reader.add_argument('--events', metavar='E', type=at_least_one, default=2000)
-    reader.add_argument('--jobs', metavar='J', type=int, default=os.cpu_count())
-    reader.add_argument('--keep', metavar='FOLDER', default='differences')
-    reader.add_argument('paths', metavar='CHART', nargs='*')
+    add_options(reader)
+    reader.add_argument('charts', metavar='CHART', nargs='+')
     options = reader.parse_args(words)
-    options.against = os.path.abspath(options.against)
-    counts, wrong = Counter(), 0
-    with tempfile.TemporaryDirectory(dir='/dev/shm' if os.path.isdir('/dev/shm') else None) as folder:
-        for each in tried(options, folder):
-            counts.update(each.counts)
-            if each.lines:
-                wrong += 1
-                keep_files(options.keep, each.stem, each.files)
-                print('\n'.join(each.lines), flush=True)
-    print_counts('comments', counts)
-    return 1 if wrong or not counts['comments that do, of functions that were called'] else 0
+    met, wrong = Counter(), []
+    with tempfile.TemporaryDirectory() as folder:
+        comparison = Comparison(options, folder)
+        for path in options.charts:
+            with open(path, 'rb') as file:
+                lines, counts = comparison.compared(path, file.read().decode('latin-1'), DEFAULT_BOUNDS,
+                                                    random.Random(options.seed).randrange(1, 2 ** 63))
+            met.update(counts)
+            wrong += lines
+            print(''.join(line + '\n' for line in lines), end='', flush=True)
+    print_counts('comments', met)
+    return 1 if wrong or not met['comments that do, of functions that were called'] else 0
 
 
 if __name__ == '__main__':

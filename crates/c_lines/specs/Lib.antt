@@ -1,0 +1,4 @@
+pub mod Broken
+pub mod Cut
+pub mod Reading
+pub mod Wrapped

@@ -12,6 +12,7 @@ use Rattle.c_text.specs.Labels.{Labels, labels_for, labels_of}
 use Rattle.c_expression_writer.specs.FileShapes.{shape_seen, tests_seen}
 use Rattle.c_file.specs.declared.made.Made.{Made}
 use Rattle.c_file.specs.declared.written.Written.{Written}
+use Rattle.c_lines.specs.Wrapped.{IsInLines}
 use Rattle.c_header.specs.declared.facts.SourceFacts.{SourceFacts}
 use Rattle.c_header.specs.declared.identity.Identity.{Identity}
 use Rattle.c_header.specs.Header.{calls_number, header_text}
@@ -86,3 +87,7 @@ module _ {c : Chart} {w : Written} {made : Made} (is : IsMadeFor c w made) where
       ap (λ (x : List ℕ). header_text x (shape_seen made.shape) facts identity)
       (sym is.is_made.named ∙ ap (λ (L : Labels). L.chart) is.names)
       ∙ ap (λ (S : Shape). header_text (names_in c (code_of w.code)).chart S facts identity) is.shape
+
+-- what is in lines is so of an equal text
+pub same_lines : (text other made : List ℕ) → text ≡ other → IsInLines text made → IsInLines other made
+same_lines text other made e is = subst (λ (x : List ℕ). IsInLines x made) e is

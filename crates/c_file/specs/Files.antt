@@ -20,6 +20,7 @@ use Rattle.c_functions.specs.Plans.{Shape, Tests}
 use Rattle.c_runs.specs.Claims.{FileRunsAsRules, FitsChart, Serves}
 use Rattle.c_text.specs.Labels.{Labels, labels_for, labels_of}
 use Rattle.c_expression_writer.specs.FileShapes.{shape_seen, tests_seen}
+use Rattle.c_lines.specs.Wrapped.{IsInLines}
 use Rattle.c_header.specs.declared.facts.SourceFacts.{SourceFacts}
 use Rattle.c_header.specs.declared.identity.Identity.{Identity}
 use Rattle.c_header.specs.Header.{calls_number, header_text}
@@ -113,20 +114,22 @@ source_for c T limits room k origins tags facts written identity =
     source_text (names_in c k) (comments_in c origins tags) identity limits room (shape_of k T limits room).notes
     (calls_number facts.calls) (written_file k T limits room).functions written
 
--- both files are those of what they are made from, for a list of the functions that are reached and facts that hold
+-- both files are those of what they are made from, in lines, for a list of the functions that are reached and facts that
+-- hold
 pub record IsPrinted (made : Made) (identity : Identity) (files : CFiles) : Type 0 where
   pub written : List Bool
   pub facts : SourceFacts
   pub hold : AreFacts (labels_of made.labels) (functions_of made) written facts
-  pub header_is : string_bytes files.header ≡ header_text made.name.now (shape_seen made.shape) facts identity
-  pub source_is : string_bytes files.source
-      ≡ source_text (labels_of made.labels) (said_of made.said) identity made.shape.bounds made.shape.outputs
-      made.shape.notes (calls_number facts.calls) (functions_of made) written
+  pub header_is : IsInLines (header_text made.name.now (shape_seen made.shape) facts identity)
+      (string_bytes files.header)
+  pub source_is : IsInLines
+      (source_text (labels_of made.labels) (said_of made.said) identity made.shape.bounds made.shape.outputs
+      made.shape.notes (calls_number facts.calls) (functions_of made) written) (string_bytes files.source)
 
 -- The two texts are header and source of a chart, of this making: both of one code, made of the chart's smaller code,
 -- with the tests, limits and room that it needs under the bounds that were asked for, and arrays of sizes that C takes.
--- The header says the facts that hold of the functions of its file, and the source has those that are reached. That file
--- runs as the rules say under these bounds.
+-- The header says the facts that hold of the functions of its file, and the source has those that are reached. No line
+-- of either is too long. That file runs as the rules say under these bounds.
 pub record IsC (c : Chart) (identity : Identity) (header source : List ℕ) : Type 0 where
   pub code : Code
   pub tags : List Tag
@@ -140,8 +143,8 @@ pub record IsC (c : Chart) (identity : Identity) (header source : List ℕ) : Ty
   pub limits_are : AreLimits code identity.bounds tests limits room
   pub sizes : HasSizes (shape_of code tests limits room)
   pub hold : AreFacts (names_in c code) (written_file code tests limits room).functions written facts
-  pub header_is : header ≡ header_for c tests limits room code facts identity
-  pub source_is : source ≡ source_for c tests limits room code origins tags facts written identity
+  pub header_is : IsInLines (header_for c tests limits room code facts identity) header
+  pub source_is : IsInLines (source_for c tests limits room code origins tags facts written identity) source
   pub runs : FileRunsAsRules c identity.bounds (shape_of code tests limits room) (written_file code tests limits room)
 
 -- the text is the header of a chart's C, beside some source

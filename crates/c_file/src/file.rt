@@ -5,19 +5,23 @@ ghost use Rattle.checked_chart.specs.Kept.{chart_of};
 ghost use Rattle.code_language.specs.Code.{code_of};
 ghost use Rattle.c_expression_writer.specs.FileShapes.{shape_seen};
 ghost use Rattle.c_header.specs.Header.{header_text};
+ghost use Rattle.c_text.specs.Labels.{labels_of};
 ghost use Rattle.c_runs.specs.Claims.{FitsChart};
-ghost use Rattle.c_file.specs.Comments.{IsTagOf};
+ghost use Rattle.c_file.specs.Comments.{IsTagOf, said_of};
 ghost use Rattle.c_file.specs.Files.{IsC, IsMadeFor, IsPrinted, chart_name};
-ghost use Rattle.c_file.specs.Made.{IsMade};
+ghost use Rattle.c_file.specs.Made.{AreUses, IsMade, functions_of};
+ghost use Rattle.c_file.specs.Source.{source_text};
+ghost use Rattle.c_lines.specs.Wrapped.{IsInLines};
 
 use crate::facts::facts_of;
-use crate::known::uses_of;
+use crate::known::{Uses, uses_of};
 use crate::made::Made;
 use crate::printing::printed_source;
 use crate::said::Said;
 use crate::written::{Written, written_code};
 use c_expression_writer::FileShape;
 use c_header::{Identity, SourceFacts, calls_number, print_header};
+use c_lines::in_lines;
 use c_loops::loops_run_as_calls;
 use c_runs::files_of_code_that_serves_run_as_charts;
 use c_text::Labels;
@@ -61,7 +65,7 @@ fn made_of<'a>(alloc: Global, chart: &'a Chart, written: &'a Written) -> Result<
     })
 }
 
-/// The header, where these facts hold of the source.
+/// The header, where these facts hold of the source, before it is in lines.
 fn printed_header(
     alloc: Global,
     made: &Made<'_>,
@@ -87,6 +91,40 @@ pub struct CFiles {
     pub source: String,
 }
 
+/// The header in lines, where these facts hold of the source.
+fn lined_header(
+    alloc: Global,
+    made: &Made<'_>,
+    facts: SourceFacts,
+    identity: Identity,
+) -> Result<String, Memory>
+    ensures { IfOk result (λ text. IsInLines
+        (header_text made.now.name.now (shape_seen made.now.shape) facts identity)
+        (string_bytes text)) }
+{
+    let text = printed_header(alloc, made, facts, identity)?;
+    Ok(in_lines(alloc, &text)?)
+}
+
+/// The source in lines, for a header that has this number of calls.
+fn lined_source(
+    alloc: Global,
+    made: &Made<'_>,
+    uses: &Uses,
+    calls: u64,
+    identity: Identity,
+) -> Result<String, Memory>
+    requires is { IsMade made.now }
+    requires uses { AreUses (labels_of made.now.labels) (functions_of made.now) uses.now }
+    ensures { IfOk result (λ text. IsInLines (source_text (labels_of made.now.labels)
+        (said_of made.now.said) identity made.now.shape.bounds made.now.shape.outputs
+        made.now.shape.notes calls (functions_of made.now) uses.now.reached.items)
+        (string_bytes text)) }
+{
+    let text = printed_source(alloc, made, uses, calls, identity)?;
+    Ok(in_lines(alloc, &text)?)
+}
+
 /// Both files, made of the same. Each function is made twice: to see what it uses, and to print it.
 fn printed_files(alloc: Global, made: &Made<'_>, identity: Identity) -> Result<CFiles, Memory>
     requires is { IsMade made.now }
@@ -94,9 +132,9 @@ fn printed_files(alloc: Global, made: &Made<'_>, identity: Identity) -> Result<C
 {
     let uses = uses_of(alloc, made)?;
     let facts = facts_of(alloc, made, &uses)?;
-    let header = printed_header(alloc, made, facts, identity)?;
+    let header = lined_header(alloc, made, facts, identity)?;
     let calls = calls_number(facts.calls);
-    let source = printed_source(alloc, made, &uses, calls, identity)?;
+    let source = lined_source(alloc, made, &uses, calls, identity)?;
     Ok(CFiles { header, source })
 }
 

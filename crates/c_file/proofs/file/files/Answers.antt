@@ -1,4 +1,4 @@
-use Rattle.std.proofs.Common.{length, ◌∙◌}
+use Rattle.std.proofs.Common.{length}
 use Rattle.std.proofs.lemmas.Result.{IfOk-weaker}
 use Rattle.checked_chart.specs.Kept.{chart_of}
 use Rattle.code_language.specs.Code.{code_of}
@@ -7,7 +7,7 @@ use Rattle.c_functions.specs.Files.{shape_of}
 use Rattle.c_functions.specs.Starts.{file_of}
 use Rattle.c_expression_writer.specs.FileShapes.{tests_seen}
 use Rattle.c_file.specs.Files.{IsMadeFor}
-use Rattle.c_file.proofs.SourceLemmas.{facts_hold, header_is, source_is}
+use Rattle.c_file.proofs.SourceLemmas.{facts_hold, header_is, same_lines, source_is}
 use Rattle.c_file.proofs.file.files.Goals as goal
 
 pub returns : goal.returns
@@ -30,8 +30,8 @@ returns c =
       limits_are = is.limits_are;
       sizes = is.sizes;
       hold = facts_hold made printed.written printed.facts printed.hold;
-      header_is = printed.header_is ∙ header_is made printed.facts identity;
-      source_is = printed.source_is ∙ source_is made printed.written printed.facts identity;
+      header_is = same_lines _ _ _ (header_is made printed.facts identity) printed.header_is;
+      source_is = same_lines _ _ _ (source_is made printed.written printed.facts identity) printed.source_is;
       runs = record {
         runs = λ int s given events moments small has values all rules.
             c.loops_run_as_calls.ensures.runs (length (code_of w.code).procedures.procs)

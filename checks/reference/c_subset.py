@@ -212,7 +212,7 @@ MARKS = '+ - * / % & | == != < <= > >= && ||'.split()
 def tokens(text, headers, name=''):
     """The words of a text, without spaces and comments, and with those of the headers of the same program in their place."""
     found, place, number = [], 0, 1
-    text = CPLUSPLUS.sub('\n\n\n', text)
+    text = CPLUSPLUS.sub('\n\n\n', text).replace('\\\n', '')          # lines are joined (5.1.1.2 p1, 2)
     for strange in ('\\', '??'):
         if strange in text:
             raise Refused(text[:text.index(strange)].count('\n') + 1, 'no word has ' + strange)

@@ -46,7 +46,7 @@ def read(folder, name):
 
 def number_of(header, name):
     """The number of that name in a header."""
-    found = re.findall(r'\b%s = ([0-9]+)\b' % name, header)
+    found = re.findall(r'\b%s\s=\s+([0-9]+)\b' % name, header)
     if len(found) != 1:
         raise Failed('a header has not one %s' % name)
     return int(found[0])

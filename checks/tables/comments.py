@@ -28,7 +28,7 @@ from chart_c import Failed, c_name, field_of, output_of, write
 from chart_check import check_chart
 from programs import at_least_one, parser, print_counts
 
-FUNCTION = re.compile(r'/\* ((?:(?!\*/).)*) \*/\n(?:static )?\w+ (\w+)\(([^)]*)\)\n\{\n(.*?)^\}\n', re.DOTALL | re.MULTILINE)
+FUNCTION = re.compile(r'/\*\s+((?:(?!\*/).)*)\s+\*/\n(?:static\s+)?\w+\s+(\w+)\(([^)]*)\)\n\{\n(.*?)^\}\n', re.DOTALL | re.MULTILINE)
 SAID = re.compile(r'(?P<part>.*?(?:, the actions noted there)?)'
                   r'(?:, where the event is (?P<event>another one|the start|a tick|\w+))?'
                   r'(?:(?:, where| and) the home is (?P<home>the chart|[\w/]+))?'
@@ -173,7 +173,7 @@ def stored(datum):
 def program_of(chart, source, seed, turns):
     """The C of a chart with tests and a `main`, and its functions."""
     numbers = Numbers(chart)
-    source, functions = with_tests(source, numbers)
+    source, functions = with_tests(source.replace('\\\n', ''), numbers)
     parts = {
         'name': c_name(chart), 'count': len(functions), 'seed': seed, 'turns': turns,
         'events': ', '.join('%du' % number for number in [*numbers.inputs, numbers.tick]),

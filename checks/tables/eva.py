@@ -34,7 +34,7 @@ NEEDS_128_BITS = '__int128'
 SUMMARY = re.compile(r'\[eva:summary\].*', re.DOTALL)
 # A message of Eva that tells of something: its first line, and those that are set in below it.
 TOLD = re.compile(r'^\[[\w:-]+\] (?:\S+: )?(?:User )?(?:Warning|Error): .*(?:\n +\S.*)*', re.MULTILINE)
-DEFINED = re.compile(r'^(?:static )?\w+ (\w+)\([^)]*\)\n\{$', re.MULTILINE)
+DEFINED = re.compile(r'^(?:static\s+)?\w+\s+(\w+)\([^)]*\)\n\{$', re.MULTILINE)
 MAIN = '''#include "%(file)s.h"
 #include "__fc_builtin.h"
 

@@ -40,10 +40,10 @@ LIMITS = ['-DUINT_MAX=4294967295u', '-DINT_MAX=2147483647', '-DINT_MIN=(-2147483
 TARGET = ['--std=c99', '--platform=unix64', *LIMITS, '-DINT64_C(x)=x', '-DUINT64_C(x)=x##u']
 CPPCHECK = ['cppcheck', *TARGET, '--enable=all', '--addon=misra', '--quiet', '--template=[{id}]']
 CLANG = ['clang', '--analyze', '-std=c99', '-Xclang', '-analyzer-checker=alpha.deadcode.UnreachableCode', '-o', os.devnull]
-FUNCTION = re.compile(r'^static \w+ (\w+)\((\w+ \*m)?[^)]*\)\n\{\n(.*?)^\}\n', re.DOTALL | re.MULTILINE)
+FUNCTION = re.compile(r'^static\s+\w+\s+(\w+)\((\w+\s+\*m)?[^)]*\)\n\{\n(.*?)^\}\n', re.DOTALL | re.MULTILINE)
 BARE_DEFAULT = re.compile(r'\bdefault:\s*break;')
 DISCARDED = re.compile(r'^    \(void\)(\w+);$', re.MULTILINE)
-STORES = re.compile(r'\bm->\w+(?:\[[^\]]*\])? = ')
+STORES = re.compile(r'\bm->\w+(?:\[[^\]]*\])?\s=\s')
 CALLS = re.compile(r'\b(\w+)\(m\b')
 
 

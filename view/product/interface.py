@@ -2,12 +2,12 @@
 import re
 from typing import NamedTuple, Optional
 
-ENUM = re.compile(r'enum \{ (\w+) = (\d+) \};')
-SUM = re.compile(r'enum \{ (?:\w+_SUM_[0-3] = 0x[0-9a-f]{4}(?:, )?){4} \};')
-STRUCT = re.compile(r'typedef struct \{\n(.*?)\n\} (\w+)_chart;', re.DOTALL)
-FIELD = re.compile(r'\s*(\w+) (\w+)(?:\[(\d+)\])?; /\* (.*?) \*/', re.DOTALL)
-TEST = re.compile(r'/\* Whether ([\w/]+) is active\. \*/\nstatic inline bool (\w+)\(const \w+ \*m\)\n\{\n    return (.*?);\n\}',
-                  re.DOTALL)
+ENUM = re.compile(r'enum\s+\{\s+(\w+)\s+=\s+(\d+)\s+\};')      # a long line is broken at any blank
+SUM = re.compile(r'enum\s+\{\s+(?:\w+_SUM_[0-3]\s+=\s+0x[0-9a-f]{4}(?:,\s+)?){4}\s+\};')
+STRUCT = re.compile(r'typedef struct \{\n(.*?)\n\}\s+(\w+)_chart;', re.DOTALL)
+FIELD = re.compile(r'\s*(\w+)\s+(\w+)(?:\[(\d+)\])?;\s+/\*\s+(.*?)\s+\*/', re.DOTALL)
+TEST = re.compile(r'/\*\s+Whether\s+([\w/]+)\s+is\s+active\.\s+\*/\nstatic\s+inline\s+bool\s+(\w+)\(const\s+\w+\s+\*m\)\n'
+                  r'\{\n    return\s+(.*?);\n\}', re.DOTALL)
 CHILDREN = re.compile(r'the active child of [^:]+: (.*)')
 BIT = re.compile(r'\(m->(flags_\d+) & (\d+)u\) != 0u')
 SIZES = {'bool': 1, **{'%sint%d_t' % (sign, bits): bits // 8 for sign in ('', 'u') for bits in (8, 16, 32, 64)}}
@@ -41,6 +41,7 @@ class Interface:
     """The names of a header. `prefix` is what the names of the chart begin with, and `sum` the sum of the chart."""
 
     def __init__(self, header):
+        header = header.replace('\\\n', '')                  # lines that a backslash joins (5.1.1.2 p1)
         struct = STRUCT.search(header)
         if not struct:
             raise NoHeader('it has no struct of a chart')

@@ -15,6 +15,9 @@ from chart_c import FOLDER as DRIVER, Failed, compile_driver, make_c, output_of,
 
 FLAGS = '-std=c99', '-O0', '--coverage'
 
+# A function under its comment.
+COMMENTED = re.compile(r'^/\*\s+((?:(?!\*/).)*?)\s+\*/\n(?:static\s+)?\w+\s+(\w+)\([^;{]*\)\n\{$', re.DOTALL | re.MULTILINE)
+
 # A line of the C with branches that aren't taken: how many of how many, its text, the function, and the part of the chart that the
 # function is of.
 Missed = namedtuple('Missed', 'line missed of text function part')
@@ -46,28 +49,31 @@ def told(folder, source):
     with gzip.open(os.path.join(folder, name)) as file:
         found = json.load(file)
     with open(os.path.join(folder, source), encoding='latin-1') as file:
-        lines = file.read().split('\n')
-    parts = parts_of(lines)
+        content = file.read()
+    lines, parts = content.split('\n'), parts_of(content)
     of_source = next(each for each in found['files'] if os.path.basename(each['file']) == source)
     missed = []
     for line in of_source['lines']:
         left = sum(1 for branch in line['branches'] if not branch['count'])
         if left:
             number, function = line['line_number'], line.get('function_name', '')
-            missed.append(Missed(number, left, len(line['branches']), lines[number - 1].strip(), function,
+            missed.append(Missed(number, left, len(line['branches']), statement_at(lines, number), function,
                                  parts.get(function, 'no part of the chart alone')))
     count = sum(len(line['branches']) for line in of_source['lines'])
     return Branches(count, count - sum(each.missed for each in missed), missed)
 
 
-def parts_of(lines):
+def parts_of(content):
     """The comment above each function that has one, by the name of the function."""
-    found = {}
-    for comment, head in zip(lines, lines[1:]):
-        name = re.fullmatch(r'(?:static )?\w+ (\w+)\(.*\)', head)
-        if comment.startswith('/* ') and name:
-            found[name[1]] = comment[3:].removesuffix(' */')
-    return found
+    return {name: ' '.join(comment.split()) for comment, name in COMMENTED.findall(content.replace('\\\n', ''))}
+
+
+def statement_at(lines, number):
+    """The statement that begins at a line: a long one is broken at blanks."""
+    last = number
+    while last < len(lines) and not lines[last - 1].endswith((';', '{', '}')):
+        last += 1
+    return ' '.join(' '.join(lines[number - 1:last]).split())
 
 
 def lines_of(branches):

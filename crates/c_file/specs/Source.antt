@@ -4,9 +4,9 @@ use Rattle.std.specs.Prelude.{decimal, slice_index_or, if◌then◌else◌}
 use Rattle.flow_base.specs.declared.bounds.Bounds.{Bounds}
 use Rattle.c_subset.specs.Trees.{Function}
 use Rattle.c_subset.specs.Lines.{lines_of}
-use Rattle.c_names.specs.Stems.{name_of_chart}
 use Rattle.c_text.specs.Labels.{Labels}
 use Rattle.c_text.specs.Functions.{prototype_text, function_text}
+use Rattle.c_header.specs.Header.{named_text}
 use Rattle.c_header.specs.Identity.{identity_text, sum_numbers}
 use Rattle.c_header.specs.declared.identity.Identity.{Identity}
 use Rattle.c_file.specs.Reached.{outside_of}
@@ -51,10 +51,6 @@ unfoldable pub opening_text : List ℕ → Identity → List ℕ
 opening_text chart identity =
     identity_text chart identity
     ++ ((codes "   " ++ chart) ++ ((codes ".h says how it is used. */\n#include \"" ++ chart) ++ codes ".h\"\n\n"))
-
--- words, and one of the chart's names, whose word goes on with other text
-abbrev pub named_text : List ℕ → List ℕ → List ℕ → List ℕ
-named_text front chart back = front ++ name_of_chart chart back
 
 -- CHART_NAME == NUMBER, after other words
 unfoldable pub number_is : List ℕ → List ℕ → List ℕ → ℕ → List ℕ

@@ -142,7 +142,9 @@ fn printed_files(alloc: Global, made: &Made<'_>, identity: Identity) -> Result<C
 /// functions that it needs. The code is faster than the smaller code of the chart and has its runs,
 /// and the C tests a bound of `identity` unless it is known that no event of that code overruns it.
 /// Each function is made, printed and dropped before the next one, so that no more than the texts,
-/// the code, one function and the numbers of functions that call each other are in memory at once.
+/// the code, one function and the numbers of functions that call each other are in memory at once;
+/// while its lines are broken, a text is there three times. No line of either file has more than
+/// 509 characters, and C reads the same as though no line was broken.
 ///
 /// `Memory` only where memory was refused.
 ///

@@ -11,8 +11,7 @@ ghost use Rattle.c_file.specs.Uses.{is_wide};
 use crate::comments::print_comment;
 use crate::known::{Uses, is_outside};
 use crate::made::Made;
-use c_header::{Identity, print_identity, print_sum_numbers};
-use c_names::print_chart_name;
+use c_header::{Identity, print_identity, print_named, print_sum_numbers};
 use c_text::{function_kind, print_function, print_prototype};
 use code_fields::print_number;
 use flow_base::{Bounds, Memory};
@@ -54,7 +53,7 @@ pub(crate) fn any_wide(made: &Made<'_>, uses: &Uses) -> bool
 }
 
 /// Appends words and the name of the chart.
-fn print_named(out: &mut String, words: &str, chart: &str) -> Result<(), AllocError>
+fn print_words(out: &mut String, words: &str, chart: &str) -> Result<(), AllocError>
     ensures { OnOk result
         (string_bytes out.new ≡ string_bytes out.old ++ (words.now ++ chart.now)) }
 {
@@ -74,19 +73,10 @@ fn print_opening(
         ≡ string_bytes out.old ++ spec.opening_text chart.now identity) }
 {
     print_identity(alloc, out, chart, identity)?;
-    print_named(out, "   ", chart)?;
-    print_named(out, ".h says how it is used. */\n#include \"", chart)?;
+    print_words(out, "   ", chart)?;
+    print_words(out, ".h says how it is used. */\n#include \"", chart)?;
     out.push_str(".h\"\n\n")?;
     Ok(())
-}
-
-/// Appends words, and one of the chart's names in C, whose word goes on with other text.
-fn print_of_chart(out: &mut String, front: &str, chart: &str, back: &str) -> Result<(), AllocError>
-    ensures { OnOk result (string_bytes out.new
-        ≡ string_bytes out.old ++ spec.named_text front.now chart.now back.now) }
-{
-    out.push_str(front)?;
-    print_chart_name(out, chart, back)
 }
 
 /// Appends words, and that a number of the header is this one.
@@ -101,7 +91,7 @@ fn print_number_is(
     ensures { OnOk result (string_bytes out.new
         ≡ string_bytes out.old ++ spec.number_is front.now chart.now name.now number) }
 {
-    print_of_chart(out, front, chart, name)?;
+    print_named(out, front, chart, name)?;
     print_number(out, "", number)?;
     Ok(())
 }
@@ -119,7 +109,7 @@ fn print_sizes_fit(
     ensures { OnOk result (string_bytes out.new
         ≡ string_bytes out.old ++ spec.sizes_fit chart.now bounds outputs notes calls) }
 {
-    print_of_chart(
+    print_named(
         out,
         "/* C refuses this type where the header has another of these numbers. */\ntypedef char ",
         chart,
@@ -168,8 +158,8 @@ fn print_wide(out: &mut String, chart: &str, wide: bool) -> Result<(), AllocErro
         (string_bytes out.new ≡ string_bytes out.old ++ spec.wide_text chart.now wide) }
 {
     if wide {
-        print_of_chart(out, "__extension__ typedef __int128 ", chart, "int128;\n")?;
-        print_of_chart(
+        print_named(out, "__extension__ typedef __int128 ", chart, "int128;\n")?;
+        print_named(
             out,
             "__extension__ typedef unsigned __int128 ",
             chart,

@@ -10,3 +10,4 @@ pub mod ToldNames
 pub mod CommentLemmas
 pub mod StructLemmas
 pub mod GuardLemmas
+pub mod FieldNames

@@ -1,8 +1,11 @@
 -- A path as a part of a name of C tells the names of the states in it, and so the state.
-use Rattle.std.proofs.Common.{◌≡◌, ℕ, zero, suc, ◌<◌, ◌≤◌, Bool, true, false, ◌&&◌, cond, List, [], ◌∷◌}
+use Rattle.std.proofs.Common.{◌≡◌, ℕ, zero, suc, ◌<◌, ◌≤◌, ◌^◌, Bool, true, false, ◌&&◌, cond, List, [], ◌∷◌}
 use Rattle.std.proofs.Common.{◌++◌, length, map, get_or, Some, refl, sym, ap, ◌∙◌, subst, arith}
 use Rattle.std.proofs.Common.{⊎_elim}
-use Rattle.std.specs.Prelude.{codes, encode_utf8, slice_index_or, nat_eq}
+use Rattle.std.specs.Prelude.{codes, decimal, encode_utf8, slice_index_or, nat_eq, nat_lt}
+use Rattle.std.specs.Char.{digit_value}
+use Rattle.std.specs.Str.Parse.{IsNumeral}
+use Rattle.std.proofs.lemmas.Fmt.{decimal_injective, decimal_is_IsNumeral, decimal_nonempty}
 use Rattle.std.specs.Str.{IsAscii}
 use Rattle.std.specs.List.{flat_map, join_with_byte, list_all, AllByRecursion}
 use Rattle.std.proofs.lemmas.Bool.{cases_Bool, and_parts, eqb-true}
@@ -18,7 +21,7 @@ use Rattle.actions.specs.Names.{Names}
 use Rattle.checked_chart.specs.Valid.{HasNames}
 use Rattle.c_header.specs.declared.paths.Form.TheVariants.{Label}
 use Rattle.c_names.specs.Stems.{letter_text, doubled}
-use Rattle.c_header.specs.Paths.{state_name, path_text}
+use Rattle.c_header.specs.Paths.{state_name, path_text, state_label, longest_path}
 use Rattle.c_header.proofs.PathLemmas.{steps, steps-root, steps-child, path-root}
 use Rattle.c_header.proofs.SiblingNames.{same_child}
 
@@ -73,12 +76,21 @@ parts_name (c ∷ cs) rest ascii =
     ∙ parts_letter c (flat_map letter_text cs ++ rest) (ascii 0)
     ∙ ap (push c) (parts_name cs rest (λ i. ascii (suc i)))
 
+-- digits don't begin with a letter
+no_letter : (text : List ℕ) → IsNumeral 10 text → is_letter (get_or text 0 0) ≡ true → ⊥
+no_letter [] numeral letter = omega (arith, numeral.0)
+no_letter (c ∷ cs) numeral letter = by c numeral.1.0 letter
+  where
+    by : (c : ℕ) → digit_value c < 10 → is_letter c ≡ true → ⊥
+    by c digit letter = grind (arith, nat_tests)
+
 -- a name of a path: it begins with a letter
 pub record IsPart (name : List ℕ) : Type 0 where
   pub first : ℕ
   pub others : List ℕ
   pub is : name ≡ first ∷ others
   pub letter : nat_eq first 95 ≡ false
+  pub begins : is_letter first ≡ true
   pub ascii : IsAscii name
 
 pub part_of_name : (name : List ℕ) → is_name name ≡ true → IsPart name
@@ -90,6 +102,7 @@ part_of_name (c ∷ cs) h =
       others = cs;
       is = refl;
       letter = not_line c begins;
+      begins = begins;
       ascii = is_name-ascii (c ∷ cs) h;
     }
   where
@@ -244,7 +257,7 @@ module _ (t : Tree) (n : Names) (tree : IsTree t) (size : length n.states ≡ st
       no_part c cs same = cc
 
   -- two different states have different paths
-  pub one_state : (s u : ℕ) → s < state_count t → u < state_count t
+  one_state : (s u : ℕ) → s < state_count t → u < state_count t
       → path_text Label t n s ≡ path_text Label t n u → s ≡ u
   one_state zero zero ls lu e = refl
   one_state zero (suc u) ls lu e = absurd (root_other u lu e)
@@ -252,3 +265,46 @@ module _ (t : Tree) (n : Names) (tree : IsTree t) (size : length n.states ≡ st
   one_state (suc s) (suc u) ls lu e =
       same_names (suc s) (suc s) (suc u) (omega arith) ls lu
       (sym (path_told s ls) ∙ ap (parts false) e ∙ path_told u lu)
+
+  -- a path begins with a letter
+  path_letter : (s : ℕ) → suc s < state_count t → is_letter (get_or (path_text Label t n (suc s)) 0 0) ≡ true
+  unfolding path_text
+  path_letter s lt =
+      ap (λ (ts : List (List ℕ)). is_letter (get_or (join_with_byte 95 ts) 0 0)) (maps_both n (steps t (suc s)))
+      ∙ first_of (path_names (suc s)) (all_parts (suc s) (suc s) (omega arith) lt)
+      (let up = parent_before t (state_count t) tree.pre_order s lt in λ e.
+      no_push (path_names up.0) (state_name n (suc s)) (sym (child_names (suc s) up.0 up.1) ∙ e))
+    where
+      first_of : (xs : List (List ℕ)) → AllByRecursion IsPart xs → (xs ≡ [] → ⊥)
+          → is_letter (get_or (join_with_byte 95 (map doubled xs)) 0 0) ≡ true
+      first_of [] all some = absurd (some refl)
+      first_of (x ∷ []) all some =
+          ap (λ (text : List ℕ). is_letter (get_or text 0 0)) (doubled-first x all.0) ∙ all.0.begins
+      first_of (x ∷ y ∷ ys) all some =
+          ap (λ (text : List ℕ). is_letter (get_or (text ++ (95 ∷ join_with_byte 95 (map doubled (y ∷ ys)))) 0 0))
+          (doubled-first x all.0)
+          ∙ all.0.begins
+
+  -- no state has a number for its path
+  no_number : (k s : ℕ) → k < 2 ^ 64 → s < state_count t → decimal k ≡ path_text Label t n s → ⊥
+  no_number k zero small lt e =
+      let none : path_text Label t n 0 ≡ [] = path-root t tree Label n 0 (omega (arith, lt)) tree.pre_order.root in
+      let some = decimal_nonempty k small in
+      let empty : length (decimal k) ≡ 0 = ap length (e ∙ none) in
+      omega (arith, some, empty)
+  no_number k (suc s) small lt e =
+      no_letter (decimal k) (decimal_is_IsNumeral k small).0
+      (ap (λ (text : List ℕ). is_letter (get_or text 0 0)) e ∙ path_letter s lt)
+
+  -- two different states are written differently in names of C
+  pub one_label : (s u : ℕ) → state_count t < 2 ^ 64 → s < state_count t → u < state_count t
+      → state_label t n s ≡ state_label t n u → s ≡ u
+  unfolding state_label
+  one_label s u few ls lu e =
+      by (nat_lt longest_path (length (path_text Label t n s))) (nat_lt longest_path (length (path_text Label t n u))) e
+    where
+      by : (a b : Bool) → cond a (decimal s) (path_text Label t n s) ≡ cond b (decimal u) (path_text Label t n u) → s ≡ u
+      by true true e = decimal_injective s u (omega (arith, few, ls)) (omega (arith, few, lu)) e
+      by true false e = absurd (no_number s u (omega (arith, few, ls)) lu e)
+      by false true e = absurd (no_number u s (omega (arith, few, lu)) ls (sym e))
+      by false false e = one_state s u ls lu e

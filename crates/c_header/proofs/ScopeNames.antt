@@ -20,12 +20,11 @@ use Rattle.c_text.proofs.FunctionNames.{words_distinct}
 use Rattle.c_text.proofs.KeywordLemmas.{words_of_functions_free}
 use Rattle.c_text.proofs.MemberNames.{both_distinct}
 use Rattle.c_text.proofs.WordLemmas.{lines, mark, is_last, is_free_word, name_free, names_distinct, none_of}
-use Rattle.c_header.specs.declared.paths.Form.TheVariants.{Label}
-use Rattle.c_header.specs.Paths.{path_text}
+use Rattle.c_header.specs.Paths.{state_label}
 use Rattle.c_header.specs.Scope.{HasNamedTree, event_words, test_word, test_words, fixed_words, scope_words, scope_labels}
 use Rattle.c_header.proofs.NameLists.{all_at, all_from, all_both, all_map, all_after, other_kinds, one_more}
 use Rattle.c_header.proofs.NameLists.{distinct_found, events_distinct, all_events, last_distinct}
-use Rattle.c_header.proofs.PathNames.{one_state}
+use Rattle.c_header.proofs.PathNames.{one_label}
 
 -- ---- bytes that no part of the name that is replaced has but for the chart's name
 
@@ -177,8 +176,8 @@ rest_high K =
 
 -- ---- pairwise different
 
-tests_distinct : (t : Tree) (n : Names) → HasNamedTree t n → AreDistinct (test_words t n)
-tests_distinct t n h i j li lj e =
+tests_distinct : (t : Tree) (n : Names) → HasNamedTree t n → state_count t < 2 ^ 64 → AreDistinct (test_words t n)
+tests_distinct t n h few i j li lj e =
     let f : ℕ → List ℕ = test_word t n in
     let m : ℕ = state_count t - 1 in
     let sized = length-map-range_with_len f 1 m in
@@ -186,16 +185,16 @@ tests_distinct t n h i j li lj e =
     let below_j : j < m = omega (arith, lj, sized) in
     let at_i = get_or-map-range_with_len f 1 m i (suc i) [] below_i (omega arith) in
     let at_j = get_or-map-range_with_len f 1 m j (suc j) [] below_j (omega arith) in
-    let paths : path_text Label t n (suc i) ≡ path_text Label t n (suc j) =
-    append_cancel_left (codes "in_") (path_text Label t n (suc i)) (path_text Label t n (suc j))
-    (sym at_i ∙ e ∙ at_j) in
-    let same = one_state t n h.tree h.size h.names (suc i) (suc j) (omega (arith, below_i))
-    (omega (arith, below_j)) paths in
+    let labels : state_label t n (suc i) ≡ state_label t n (suc j) =
+    append_cancel_left (codes "in_") (state_label t n (suc i)) (state_label t n (suc j)) (sym at_i ∙ e ∙ at_j) in
+    let same = one_label t n h.tree h.size h.names (suc i) (suc j) few (omega (arith, below_i))
+    (omega (arith, below_j)) labels in
     omega (arith, same)
 
 -- all words are
-pub scope_words_distinct : (K : Shape) → HasNamedTree K.tree K.names → K.procs < 2 ^ 32 → AreDistinct (scope_words K)
-scope_words_distinct K h few =
+pub scope_words_distinct : (K : Shape) → HasNamedTree K.tree K.names → state_count K.tree < 2 ^ 64 → K.procs < 2 ^ 32
+    → AreDistinct (scope_words K)
+scope_words_distinct K h states few =
     let ofs : List (List ℕ) = event_words K.names.events in
     let ins : List (List ℕ) = test_words K.tree K.names in
     both_distinct (function_words K.procs) (fixed_words ++ (ofs ++ ins)) (words_distinct K.procs few)
@@ -204,7 +203,7 @@ scope_words_distinct K h few =
     (events_distinct K.names.events
     (last_distinct (map (λ (v : Var). v.name) K.names.vars) (map (λ (e : EventDecl). e.name) K.names.events)
     h.names.distinct))
-    (tests_distinct K.tree K.names h)
+    (tests_distinct K.tree K.names h states)
     (other_kinds (IsKind 2) (IsKind 3) ofs ins
     (λ x y one two e. let same = ap kind_of e in omega (arith, one, two, same))
     (events K.names.events) (tests K.tree K.names)))
@@ -279,13 +278,13 @@ guard_other chart word is e =
     omega (arith, guard_weight chart, all, same, is.heavy)
 
 -- all names of the file scope are pairwise different
-pub scope_distinct : (chart : List ℕ) (K : Shape) → HasNamedTree K.tree K.names → K.procs < 2 ^ 32
-    → AreDistinct (scope_labels chart K)
-scope_distinct chart K h few =
+pub scope_distinct : (chart : List ℕ) (K : Shape) → HasNamedTree K.tree K.names → state_count K.tree < 2 ^ 64
+    → K.procs < 2 ^ 32 → AreDistinct (scope_labels chart K)
+scope_distinct chart K h states few =
     one_more (guard_of_chart chart) (map (name_of_chart chart) (scope_words K))
     (all_after IsWord (λ y. guard_of_chart chart ≢ y) (name_of_chart chart) (scope_words K) (guard_other chart)
     (all_words K))
-    (names_distinct chart (scope_words K) (scope_words_distinct K h few))
+    (names_distinct chart (scope_words K) (scope_words_distinct K h states few))
 
 -- ---- no keywords
 

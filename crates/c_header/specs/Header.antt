@@ -19,9 +19,9 @@ use Rattle.c_header.specs.declared.facts.SourceFacts.{SourceFacts}
 use Rattle.c_header.specs.declared.identity.Identity.{Identity}
 use Rattle.c_header.specs.declared.states.About.{About}
 use Rattle.c_header.specs.declared.states.About.TheVariants.{Active, Remembered, Bits, Test}
-use Rattle.c_header.specs.declared.paths.Form.TheVariants.{Words, Label}
+use Rattle.c_header.specs.declared.paths.Form.TheVariants.{Words}
 use Rattle.c_header.specs.Identity.{identity_text, sums_text}
-use Rattle.c_header.specs.Paths.{path_text}
+use Rattle.c_header.specs.Paths.{path_text, state_label}
 use Rattle.c_header.specs.Fields.{texts_below, data_text, counters_text, active_field, last_field, for_or, bits_line}
 
 -- a text with the chart's name in it
@@ -151,11 +151,11 @@ calls_text chart calls =
 unfoldable pub test_comment : Shape → ℕ → List ℕ
 test_comment K x = codes "/* Whether " ++ (path_text Words K.tree K.names x ++ codes " is active. */\n")
 
--- static inline bool CHART_in_A_B(const CHART_chart *m)
+-- static inline bool CHART_in_A_B(const CHART_chart *m), or CHART_in_17 where the path is too long
 unfoldable pub test_head : List ℕ → Shape → ℕ → List ℕ
 test_head chart K x =
     named_text (codes "static inline bool ") chart (codes "in_")
-    ++ (path_text Label K.tree K.names x ++ named_text (codes "(const ") chart (codes "chart *m)\n"))
+    ++ (state_label K.tree K.names x ++ named_text (codes "(const ") chart (codes "chart *m)\n"))
 
 -- { return TEST; }
 unfoldable pub test_body : Labels → Shape → ℕ → List ℕ

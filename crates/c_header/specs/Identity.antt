@@ -36,5 +36,5 @@ sum_numbers front next chart between sum =
 -- the numbers in the header, which are those of the sum
 unfoldable pub sums_text : List ℕ → Identity → List ℕ
 sums_text chart identity =
-    codes "/* The sum of the chart, by 16 bits: the source compares it. */\n"
+    codes "\n/* The sum of the chart, by 16 bits: the source compares it. */\n"
     ++ (sum_numbers (codes "enum { ") (codes ", ") chart (codes " = ") identity.sum ++ codes " };\n\n")

@@ -11,8 +11,7 @@ use Rattle.checked_chart.specs.Valid.{HasNames}
 use Rattle.c_functions.specs.Plans.{Shape}
 use Rattle.c_names.specs.Stems.{guard_of_chart, name_of_chart}
 use Rattle.c_text.specs.Labels.{function_words}
-use Rattle.c_header.specs.declared.paths.Form.TheVariants.{Label}
-use Rattle.c_header.specs.Paths.{path_text}
+use Rattle.c_header.specs.Paths.{state_label}
 
 -- the names of a chart are those of a tree of states
 pub record HasNamedTree (t : Tree) (n : Names) : Type 0 where
@@ -33,7 +32,7 @@ event_words (e ∷ es) = event_word e.kind e.name (event_words es)
 
 -- the word of the test of a state
 abbrev pub test_word : Tree → Names → ℕ → List ℕ
-test_word t n x = codes "in_" ++ path_text Label t n x
+test_word t n x = codes "in_" ++ state_label t n x
 
 -- those of all states but the root
 abbrev pub test_words : Tree → Names → List (List ℕ)

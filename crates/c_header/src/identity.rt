@@ -114,7 +114,7 @@ pub(crate) fn print_sums(
     ensures { OnOk result (string_bytes out.new
         ≡ string_bytes out.old ++ spec.sums_text chart.now identity) }
 {
-    out.push_str("/* The sum of the chart, by 16 bits: the source compares it. */\n")?;
+    out.push_str("\n/* The sum of the chart, by 16 bits: the source compares it. */\n")?;
     print_sum_numbers(alloc, out, "enum { ", ", ", chart, " = ", &identity.sum)?;
     out.push_str(" };\n\n")
 }

@@ -11,9 +11,8 @@ ghost use Rattle.c_functions.specs.Plans.{Shape};
 ghost use Rattle.c_text.specs.declared.kinds.Kind.{Kind};
 ghost use Rattle.c_text.specs.Distinct.{AreDistinct, is_keyword};
 ghost use Rattle.c_text.specs.Labels.{Labels, labels_for, row_labels, field_labels, local_label};
-ghost use Rattle.c_header.specs.declared.paths.Form.TheVariants.{Label};
 ghost use Rattle.c_header.specs.Header.{struct_text};
-ghost use Rattle.c_header.specs.Paths.{path_text};
+ghost use Rattle.c_header.specs.Paths.{state_label};
 ghost use Rattle.c_names.specs.Reserved.{is_reserved};
 ghost use Rattle.c_names.specs.Stems.{guard_of_chart, name_of_chart};
 ghost use Rattle.c_header.specs.Scope.{HasNamedTree, scope_labels};
@@ -23,11 +22,10 @@ ghost use Rattle.c_header.specs.Struct.{DeclaresStruct, IsAny, IsInside, struct_
 /// source give at file scope are pairwise different, and different from the name that the header's
 /// first lines define.
 pub fn names_of_the_header_are_distinct()
-    ensures states { (t : Tree) (n : Names) (s u : ℕ) → HasNamedTree t n
-        → s < state_count t → u < state_count t
-        → path_text Label t n s ≡ path_text Label t n u → s ≡ u }
-    ensures scope { (chart : List ℕ) (K : Shape) → HasNamedTree K.tree K.names → K.procs < 2 ^ 32
-        → AreDistinct (scope_labels chart K) }
+    ensures states { (t : Tree) (n : Names) (s u : ℕ) → HasNamedTree t n → state_count t < 2 ^ 64
+        → s < state_count t → u < state_count t → state_label t n s ≡ state_label t n u → s ≡ u }
+    ensures scope { (chart : List ℕ) (K : Shape) → HasNamedTree K.tree K.names
+        → state_count K.tree < 2 ^ 64 → K.procs < 2 ^ 32 → AreDistinct (scope_labels chart K) }
 {}
 
 /// No name that the files of a chart give at file scope is one of those of a chart of another name.
@@ -48,6 +46,16 @@ pub fn no_name_of_the_header_is_a_keyword()
 pub fn no_name_of_the_header_is_reserved()
     ensures { (chart : List ℕ) (K : Shape) (i : ℕ) → is_name chart ≡ true
         → is_reserved (slice_index_or (scope_labels chart K) i []) ≡ false }
+{}
+
+/// No field, array or local has a name that C99 keeps for its library, nor has `m`. So none of
+/// these names is a macro, neither of `<limits.h>`, `<stdbool.h>` and `<stdint.h>`, which the header
+/// includes (7.10, 7.16, 7.18), nor of another header of C99 that stands before it.
+pub fn no_name_of_the_struct_is_reserved()
+    ensures members { (L : Labels) (i : ℕ) → i < length (row_labels ++ field_labels L)
+        → is_reserved (slice_index_or (row_labels ++ field_labels L) i []) ≡ false }
+    ensures locals { (kind : Kind) (t : CType) (k : ℕ) → is_reserved (local_label kind t k) ≡ false }
+    ensures pointer { is_reserved (codes "m") ≡ false }
 {}
 
 /// The name that the header's first lines define, which C replaces wherever it stands, is that of

@@ -7,7 +7,8 @@ ghost use Rattle.c_header.specs.Paths as spec;
 use actions::Names;
 use active_config::Shape;
 use c_names::print_doubled;
-use std::alloc::AllocError;
+use code_fields::print_number;
+use std::alloc::{AllocError, Global};
 
 /// How the path of a state is written.
 #[derive(Clone, Copy, PartialEq, Eq)]
@@ -41,6 +42,33 @@ pub(crate) fn print_path(
         print_path(out, form, tree, names, parent)?;
         out.push_str(separator(form))?;
         print_part(out, form, name_of(names, state))
+    }
+}
+
+/// How long the path of a state is at most in a name of C.
+const LONGEST_PATH: usize = 200;
+
+/// Appends a state in a name of C: its path, and where that is too long its number.
+#[tactic(auto, unfolding(crate::specs::Paths::state_label))]
+pub(crate) fn print_state_label(
+    alloc: Global,
+    out: &mut String,
+    tree: &Shape,
+    names: &Names,
+    state: u32,
+) -> Result<(), AllocError>
+    requires tree { IsTree tree.now }
+    requires state { state < state_count tree.now }
+    requires named { length (names_of names.now).states ≡ state_count tree.now }
+    ensures { OnOk result (string_bytes out.new ≡ string_bytes out.old
+        ++ spec.state_label tree.now (names_of names.now) state) }
+{
+    let mut path = String::new(alloc);
+    print_path(&mut path, Form::Label, tree, names, state)?;
+    if path.len() > LONGEST_PATH {
+        print_number(out, "", u64::from(state))
+    } else {
+        out.push_str(&path)
     }
 }
 

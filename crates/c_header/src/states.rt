@@ -12,7 +12,7 @@ ghost use Rattle.c_header.specs.Fields as fields;
 ghost use Rattle.c_header.specs.Header as spec;
 
 use crate::fields::{print_commented, print_field};
-use crate::paths::{Form, name_of, print_path, print_place};
+use crate::paths::{Form, name_of, print_path, print_place, print_state_label};
 use crate::words::print_named;
 use active_config::Shape;
 use c_expression_writer::FileShape;
@@ -230,7 +230,7 @@ fn print_test_of(
         ++ spec.test_text chart.now (labels_of labels.now) (shape_seen shape.now) state) }
 {
     print_test_comment(out, shape, state)?;
-    print_test_head(out, chart, shape, state)?;
+    print_test_head(alloc, out, chart, shape, state)?;
     print_test_body(alloc, out, labels, shape, state)
 }
 
@@ -250,6 +250,7 @@ fn print_test_comment(out: &mut String, shape: &FileShape<'_>, state: u32) -> Re
 /// Appends the head of the test.
 #[tactic(auto, unfolding(crate::specs::Header::test_head))]
 fn print_test_head(
+    alloc: Global,
     out: &mut String,
     chart: &str,
     shape: &FileShape<'_>,
@@ -261,7 +262,7 @@ fn print_test_head(
         ≡ string_bytes out.old ++ spec.test_head chart.now (shape_seen shape.now) state) }
 {
     print_named(out, "static inline bool ", chart, "in_")?;
-    print_path(out, Form::Label, shape.tree, shape.names, state)?;
+    print_state_label(alloc, out, shape.tree, shape.names, state)?;
     print_named(out, "(const ", chart, "chart *m)\n")
 }
 

@@ -22,13 +22,10 @@ pub(crate) fn print_titled(
 }
 
 /// Appends words, one of the chart's names in C, and other words: `back` begins with the word
-/// that stands after the chart's name and `_`.
-pub(crate) fn print_named(
-    out: &mut String,
-    front: &str,
-    chart: &str,
-    back: &str,
-) -> Result<(), AllocError>
+/// that stands after the chart's name and `_`. This project's choice (`specs/Header.antt`).
+///
+/// On an error a part of it was appended.
+pub fn print_named(out: &mut String, front: &str, chart: &str, back: &str) -> Result<(), AllocError>
     ensures { OnOk result (string_bytes out.new
         ≡ string_bytes out.old ++ spec.named_text front.now chart.now back.now) }
 {

@@ -20,8 +20,8 @@ use std::alloc::Global;
 /// `header CHART` writes the header of the C of the accepted chart of the file, and `source CHART`
 /// its source. Both take the bounds `--depth` and `--steps`; where neither stands there, the bounds
 /// are those that no event of the chart overruns, if it has such bounds, and else the default ones.
-/// `--version` alone writes the version. All other arguments are refused as Usage. Any arguments may end in Memory before anything is
-/// read.
+/// `--version` alone writes the version. All other arguments are refused as Usage. Any arguments may
+/// end in Memory before anything is read.
 pub fn c_main<I: Inputs, O: Sink, E: Sink>(
     alloc: Global,
     words: &[String],

@@ -96,7 +96,8 @@ fn read_summed<I: Inputs>(
     }
 }
 
-/// The chart of a text, with its sum.
+/// The chart of a text, with its sum. A text that is accepted is formatted unless memory runs out,
+/// as `format_text` ensures.
 fn summed_text(alloc: Global, text: &[u8]) -> Result<Summed, FormFault>
     ensures summed { IfOk result (λ summed. IsSummed text.now (chart_of summed.chart) summed.sum) }
     ensures refused { IfErr result (Refuses text.now) }

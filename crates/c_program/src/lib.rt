@@ -9,8 +9,9 @@
 //! speak of `clap`. `specs/Parser.antt` and `specs/Asked.antt` are the parser as `clap` sees it and
 //! what its answers stand for.
 //!
-//! The commands are `header` and `source`, the files of the C of a chart, and `--version`. Read `specs/Bounds.antt`, which bounds
-//! the C of a chart has, and then `specs/Texts.antt`, how the commands end.
+//! The commands are `header` and `source`, the files of the C of a chart, and `--version`. Read
+//! `specs/Bounds.antt`, which bounds the C of a chart has, and then `specs/Texts.antt`, how the
+//! commands end.
 //! `bounds_of_need_are_not_overrun` says what bounds are worth that the chart itself gives.
 //!
 //! `specs/Ending.antt` has the status and the line of each ending, and `specs/Answer.antt` the

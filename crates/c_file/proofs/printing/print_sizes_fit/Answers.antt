@@ -6,7 +6,7 @@ use Rattle.c_file.proofs.printing.print_sizes_fit.Goals as goal
 pub returns : goal.returns
 unfolding sizes_fit
 returns c =
-    six_printed _ _ _ _ _ _ _ _ _ _ _ _ _ c.in_ok-print_of_chart.ensures
+    six_printed _ _ _ _ _ _ _ _ _ _ _ _ _ c.in_ok-print_named.ensures
     (of_same (number_is [] c.args.chart.now (codes "DEPTH == ")) _ _ _ _
     c.in_ok-print_number_is.ensures c.from.ensures)
     (of_same (number_is (codes ")\n    && (") c.args.chart.now (codes "STEPS == ")) _ _ _ _

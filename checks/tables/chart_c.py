@@ -33,6 +33,7 @@ FOLDER = os.path.join(os.path.dirname(os.path.abspath(__file__)), 'c_driver')
 WARNINGS = '-std=c99 -pedantic -Wall -Wextra -Wconversion -Wsign-conversion -Werror'.split()
 GENERATED_EVENTS = 1000
 LONGEST = 600               # seconds for one command
+LONGEST_PATH = 200          # characters of a path in a name of C
 
 
 class Failed(Exception):
@@ -42,8 +43,21 @@ class Failed(Exception):
 # ---- the table of a chart
 
 def state_name(state):
-    """The name of a state in C, which stands for its path."""
-    return state.path().replace('_', '__').replace('/', '_')
+    """The name of a state in C, which stands for its path: its number where that would be too long."""
+    label = state.path().replace('_', '__').replace('/', '_')
+    return label if len(label) <= LONGEST_PATH else str(number_of(state))
+
+
+def number_of(state):
+    """The number of a state: how many stand before it in the chart."""
+    root = state
+    while root.parent:
+        root = root.parent
+    left, number = [root], 0
+    while left[0] is not state:
+        left = left[0].children + left[1:]
+        number += 1
+    return number
 
 
 def is_taken(name):

@@ -6,8 +6,8 @@
 In a page, a text in Markdown, each link leads to a file or a folder of the repository and, where it says so, to a heading; and each
 path between backquotes that begins with the name of a crate and `src`, `specs`, `proofs`, `must-fail` or `edits`, and each word of
 a command, between backquotes or in a block, that begins with `checks`, `crates`, `docs`, `examples`, `bench` or `view` and `/`, is
-that of a file or a folder; a word with `*` names at least one. What isn't there is printed, and the status is then 1; so it is
-where the pages name nothing."""
+that of a file or a folder; a word with `*` names at least one. In a row of a table a number of lines after a file of a crate is
+that of its lines. What isn't there is printed, and so is a wrong number; the status is then 1, and where the pages name nothing."""
 import glob
 import os
 import re
@@ -17,6 +17,7 @@ ROOT = os.path.dirname(os.path.dirname(os.path.dirname(os.path.abspath(__file__)
 OF_A_CRATE = re.compile(r'[a-z_]+/(?:src|specs|proofs|must-fail|edits)(?:/[\w+.-]+)*/?')
 OF_THE_REPOSITORY = re.compile(r'(?<![\w./-])(?:crates|checks|docs|examples|bench|view)/[\w+./*-]*[\w/*]')
 BLOCK = re.compile(r'(?ms)^```.*?^```$|^(?: {4}\S.*\n)+')
+LINES_OF = re.compile(r'\| `([a-z_]+/(?:src|specs)/[\w+./-]+)` \| (\d+) \|')
 MADE = ('crates/flowc/out', 'crates/chart_to_c/out')        # what `rt ci` makes
 
 
@@ -49,8 +50,16 @@ def paths_in(words):
         yield path, not path.startswith(MADE) and not glob.glob(os.path.join(ROOT, path))
 
 
+def wrong_lines(text):
+    """The rows of a page that tell another number of lines than a file has."""
+    for path, told in LINES_OF.findall(text):
+        lines = read(os.path.join(ROOT, 'crates', path)).count('\n')
+        if int(told) != lines:
+            yield '%s has %d lines and not %s' % (path, lines, told)
+
+
 def main(pages):
-    named, missing = 0, []
+    named, missing, wrong = 0, [], []
     for page in pages:
         text = content(page)
         for target in re.findall(r'\]\(([^)\s]+)\)', text):
@@ -61,10 +70,13 @@ def main(pages):
             for path, is_missing in paths_in(words):
                 named += 1
                 missing += ['%s: %s' % (page, path)] if is_missing else []
+        wrong += ['%s: %s' % (page, line) for line in wrong_lines(text)]
     print('%d pages name %d links and paths' % (len(pages), named))
     for line in missing:
         print(line + ' leads nowhere')
-    return 1 if missing or not named else 0
+    for line in wrong:
+        print(line)
+    return 1 if missing or wrong or not named else 0
 
 
 if __name__ == '__main__':

@@ -5,7 +5,7 @@ use Rattle.std.specs.List.{repeat}
 use borrow.Author.Tests.{eqb-true, not-true}
 use Rattle.c_lines.specs.declared.breaking.Place.{Place}
 use Rattle.c_lines.specs.declared.breaking.Place.TheVariants.{Margin, Words, Whole}
-use Rattle.c_lines.specs.Broken.{is_break, after_break, moved, margin_for, broken, broken_from, letter_text, break_text, after, fits, may_begin, is_blank, is_quote, width}
+use Rattle.c_lines.specs.Broken.{is_break, after_break, moved, margin_for, broken, broken_from, letter_text, break_text, after, fits, fits_from, in_first, may_begin, is_blank, is_quote, width}
 use Rattle.c_lines.specs.Cut.{cut, cut_from, longest, room_after}
 use Rattle.c_lines.specs.Reading.{joined_from, read, read_from, in_word, Where, AtStart, InWord, InGap, InWhole}
 
@@ -163,7 +163,8 @@ first_letter c more b m =
 begins : (room : ℕ) (rest : List ℕ) → fits room rest ≡ false → may_begin rest ≡ true → BeginsWord rest
 begins room [] e m = let no : true ≡ false = e in absurd (cc)
 begins zero (c ∷ more) e m = first_letter c more e m
-begins (suc room) (c ∷ more) e m = first_letter c more (neither (is_blank c) (fits room more) e).0 m
+begins (suc room) (c ∷ more) e m =
+    first_letter c more (neither (is_blank c) (fits_from (in_first c) room more) e).0 m
 
 -- such a letter is read alike at the start of a line and after a blank
 as_after_blank : (c : ℕ) (xs : List ℕ) → is_blank c ≡ false → (c == 35) ≡ false

@@ -1,7 +1,10 @@
--- Lines are broken at blanks: the last ones before which they fit. The text is a list of letters.
-use Rattle.std.specs.Prelude.{ℕ, zero, suc, ◌+◌, ◌-◌, ◌==◌, ◌||◌, ◌&&◌, not, min, Bool, true, false, List, [], ◌∷◌, ◌++◌}
+-- Lines are broken at blanks: the last ones before which they fit, where a name stays together with the word after it.
+-- The text is a list of letters.
+use Rattle.std.specs.Prelude.{ℕ, zero, suc, ◌+◌, ◌-◌, ◌==◌, ◌||◌, ◌&&◌, not, min, nat_le, Bool, true, false, List, [], ◌∷◌, ◌++◌}
 use Rattle.std.specs.Prelude.{if◌then◌else◌}
 use Rattle.std.specs.List.{repeat}
+use Rattle.c_lines.specs.declared.breaking.Ahead.{Ahead}
+use Rattle.c_lines.specs.declared.breaking.Ahead.TheVariants.{Sign, Name, Second}
 use Rattle.c_lines.specs.declared.breaking.Place.{Place}
 use Rattle.c_lines.specs.declared.breaking.Place.TheVariants.{Margin, Words, Whole}
 
@@ -13,11 +16,36 @@ is_blank c = c == 32 || c == 10
 abbrev pub is_quote : ℕ → Bool
 is_quote c = c == 34 || c == 39
 
--- the next word ends before so many letters
+-- a letter of a name, as C has them
+abbrev pub is_of_name : ℕ → Bool
+is_of_name c = (nat_le 48 c && nat_le c 57) || ((nat_le 65 c && nat_le c 90) || (c == 95 || (nat_le 97 c && nat_le c 122)))
+
+-- a letter of the word at hand: the end of a name, or another one
+abbrev pub in_first : ℕ → Ahead
+in_first c = if is_of_name c then Name else Sign
+
+-- what is ahead after a letter: a word that ends with a name goes on with the one after it, so that a type and what has
+-- it stay together
+abbrev pub ahead_after : Ahead → ℕ → Ahead
+ahead_after Sign c = in_first c
+ahead_after Name c = if c == 32 then Second else in_first c
+ahead_after Second c = Second
+
+-- what stays together is over at a letter
+abbrev pub is_over : Ahead → ℕ → Bool
+is_over Sign c = is_blank c
+is_over Name c = c == 10
+is_over Second c = is_blank c
+
+-- what stays together ends before so many letters
+abbrev pub fits_from : Ahead → ℕ → List ℕ → Bool
+fits_from ahead room [] = true
+fits_from ahead zero (c ∷ rest) = is_over ahead c
+fits_from ahead (suc room) (c ∷ rest) = is_over ahead c || fits_from (ahead_after ahead c) room rest
+
+-- the next word ends before so many letters, and where that is a name, the word after it
 abbrev pub fits : ℕ → List ℕ → Bool
-fits room [] = true
-fits zero (c ∷ rest) = is_blank c
-fits (suc room) (c ∷ rest) = is_blank c || fits room rest
+fits room rest = fits_from Sign room rest
 
 -- a line may begin with what follows: not with `#`, which would make it a directive, nor with a backslash
 abbrev pub may_begin : List ℕ → Bool

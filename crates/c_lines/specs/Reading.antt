@@ -1,6 +1,6 @@
 -- What C reads of a text before it looks for words: lines are joined (5.1.1.2 p1, 2), and between words it doesn't matter how
 -- many blanks and ends of lines stand (3), but for the lines that begin with `#` (4). The text is a list of letters.
-use Rattle.std.specs.Prelude.{ℕ, ◌==◌, ◌||◌, Bool, true, false, List, [], ◌∷◌, if◌then◌else◌}
+use Rattle.std.specs.Prelude.{ℕ, ◌==◌, Bool, true, false, List, [], ◌∷◌, if◌then◌else◌}
 use Rattle.c_lines.specs.Broken.{is_blank, is_quote}
 
 -- each backslash at the end of a line is deleted, with that end; true: one was read, and what follows tells

@@ -40,19 +40,81 @@ fn is_blank(letter: char) -> bool
     letter == ' ' || letter == '\n'
 }
 
-/// Whether the next word ends before so many letters.
+/// What is ahead in a text.
+#[derive(Clone, Copy)]
+pub(crate) enum Ahead {
+    /// The first word, after a letter that is none of a name.
+    Sign,
+    /// The first word, after a letter of a name.
+    Name,
+    /// The word after it.
+    Second,
+}
+
+/// Whether it is a letter of a name.
+fn is_of_name(letter: char) -> bool
+    ensures { result ≡ spec.is_of_name letter }
+{
+    ('0' <= letter && letter <= '9')
+        || ('A' <= letter && letter <= 'Z')
+        || letter == '_'
+        || ('a' <= letter && letter <= 'z')
+}
+
+/// What is ahead after a letter of the first word.
+fn in_first(letter: char) -> Ahead
+    ensures { result ≡ spec.in_first letter }
+{
+    if is_of_name(letter) {
+        Ahead::Name
+    } else {
+        Ahead::Sign
+    }
+}
+
+/// What is ahead after a letter.
+fn ahead_after(ahead: Ahead, letter: char) -> Ahead
+    ensures { result ≡ spec.ahead_after ahead letter }
+{
+    match ahead {
+        Ahead::Sign => in_first(letter),
+        Ahead::Name => {
+            if letter == ' ' {
+                Ahead::Second
+            } else {
+                in_first(letter)
+            }
+        }
+        Ahead::Second => Ahead::Second,
+    }
+}
+
+/// Whether what stays together is over at a letter.
+fn is_over(ahead: Ahead, letter: char) -> bool
+    ensures { result ≡ spec.is_over ahead letter }
+{
+    match ahead {
+        Ahead::Sign | Ahead::Second => is_blank(letter),
+        Ahead::Name => letter == '\n',
+    }
+}
+
+/// Whether the next word ends before so many letters, and where it ends with a name, the word after
+/// it: a type and what has it stay together.
 fn fits(room: u32, rest: &str) -> bool
     ensures { result ≡ spec.fits room (chars rest.now) }
 {
     let mut left = room;
+    let mut ahead = Ahead::Sign;
     for letter in rest.chars() {
-        if is_blank(letter) {
+        if is_over(ahead, letter) {
             return true;
         }
         if left == 0 {
             return false;
         }
         left -= 1;
+        ahead = ahead_after(ahead, letter);
     }
     true
 }

@@ -1,5 +1,4 @@
-use Rattle.std.proofs.Common.{◌≡◌, ◌∙◌, ◌+◌, ◌++◌, ◌∷◌, [], ap, sym, encode_utf8_all, string_bytes, List, ℕ}
-use Rattle.std.specs.List.{repeat}
+use Rattle.std.proofs.Common.{string_bytes}
 use Rattle.c_lines.proofs.Letters.{blanks_more}
 use Rattle.c_lines.proofs.breaking.print_blanks.Goals as goal
 

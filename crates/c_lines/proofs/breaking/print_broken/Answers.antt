@@ -1,7 +1,5 @@
-use Rattle.std.proofs.Common.{◌≡◌, ◌∙◌, ◌++◌, ◌∷◌, [], sym, ap, subst, string_bytes, encode_utf8_all, chars, IsUtf8, List, ℕ}
-use Rattle.std.specs.Str.Iter.{chars_rest}
+use Rattle.std.proofs.Common.{◌∙◌, ◌++◌, ◌∷◌, sym, ap, subst, string_bytes, encode_utf8_all, chars, IsUtf8, List, ℕ}
 use Rattle.c_lines.specs.Broken as spec
-use Rattle.c_lines.specs.declared.breaking.Place.{Place}
 use Rattle.c_lines.proofs.Letters.{next_letter, no_letter, written_more, written_all, written_end}
 use Rattle.c_lines.proofs.Breaks.{broken_at, broken_on}
 use Rattle.c_lines.proofs.breaking.print_broken.Goals as goal

@@ -1,0 +1,9 @@
+pub mod Truth
+pub mod Clearer
+pub mod Keeping
+pub mod Calling
+pub mod Runs
+pub mod Law
+pub mod Lines
+pub mod Loops
+pub mod Written

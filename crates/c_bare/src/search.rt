@@ -81,9 +81,9 @@ fn first_flags(alloc: Global, kept: usize, functions: &[Function]) -> Result<Vec
     Ok(flags)
 }
 
-/// Which functions of a file may be bare, without the one that is kept. It begins with all, and goes
-/// over them until no parameter is needed of a bare one; where that takes more rounds than there are
-/// functions, which isn't to be seen, none is.
+/// Which functions of a file may be bare, without the one that is kept. It begins with all, and
+/// goes over them until no parameter is needed of a bare one; where that takes more rounds than
+/// there are functions, which isn't to be seen, none is.
 ///
 /// `Memory` only where memory was refused.
 pub fn bare_functions(

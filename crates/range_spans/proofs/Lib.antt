@@ -1,0 +1,5 @@
+pub mod Guesses
+pub mod Narrowing
+pub mod BoxLemmas
+pub mod LookLemmas
+pub mod SameLemmas

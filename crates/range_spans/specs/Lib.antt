@@ -1,0 +1,4 @@
+pub mod Spans
+pub mod Known
+pub mod Narrow
+pub mod Boxes

@@ -1,29 +1,25 @@
 -- A closed certificate keeps its ranges at each moment of each run, whatever the bounds.
-use Rattle.std.proofs.Common.{◌≡◌, ◌≢◌, ◌≤◌, ℕ, zero, suc, ◌+◌, Bool, true, false, List, [], ◌∷◌, Option, Some, None}
-use Rattle.std.proofs.Common.{Ok, refl, sym, subst}
+use Rattle.std.proofs.Common.{◌≡◌, ◌≤◌, ℕ, zero, suc, ◌+◌, Bool, true, false, List, [], ◌∷◌, Option, Some, None}
+use Rattle.std.proofs.Common.{refl, sym, subst}
 use Rattle.std.proofs.Common.{slice_get, slice_index_or, arith, ◌⊎◌, inl, inr}
 use Rattle.std.specs.List.{AllByRecursion}
 use Rattle.flow_base.specs.declared.bounds.Bounds.{Bounds}
 use Rattle.flow_base.specs.declared.fault.Fault.{Fault}
 use Rattle.flow_base.specs.declared.fault.Fault.TheVariants as faults
-use Rattle.actions.specs.declared.event.Event.{Event}
-use Rattle.actions.specs.declared.event.Event.TheVariants.{Start}
 use Rattle.actions.specs.declared.expr.Value.{Value}
-use Rattle.actions.specs.Engines.{CanReactTo}
 use Rattle.actions.specs.Runs.{Moment, EventWithInputs, CanBeGiven, AreInputValues, AreSet, GoesOn, UnlessFaulted}
 use Rattle.actions.specs.Runs.{ReactsWithInputs}
-use Rattle.actions.specs.Work.{Run, Ended, Faulted, Unfinished, from_outside}
-use Rattle.actions.specs.World.{World, world_before, begun}
+use Rattle.actions.specs.Work.{Run, Ended, Faulted, Unfinished}
+use Rattle.actions.specs.World.{World, begun}
 use Rattle.checked_chart.specs.Chart.{Chart}
 use Rattle.sos_rules.specs.Reactions.{moment_of, Gives, start_upto, react_upto, Reacts, RulesRun}
-use Rattle.sos_rules.specs.Rules.{upto}
 use Rattle.range_rules.specs.declared.cert.Around.{Around}
 use Rattle.range_rules.specs.declared.cert.Cell.{Cell}
 use Rattle.range_rules.specs.declared.cert.Certificate.{Certificate}
 use Rattle.range_rules.specs.Closed.{IsCellRight, AreRight, IsRest, StandsFreed, IsClosed}
 use Rattle.range_rules.specs.Kept.{KeepsRanges}
-use Rattle.range_rules.specs.Worlds.{Stands, IsAmong, MayBe, AreAlways, EndsIn, always_of}
-use Rattle.range_spans.specs.Boxes.{Box, box_of, IsBox, freed}
+use Rattle.range_rules.specs.Worlds.{MayBe, EndsIn, always_of}
+use Rattle.range_spans.specs.Boxes.{box_of}
 use Rattle.range_spans.proofs.BoxLemmas.{freed_box, sets_box}
 
 not_both : (b : Bool) → b ≡ true → b ≡ false → ⊥

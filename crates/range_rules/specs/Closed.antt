@@ -1,6 +1,5 @@
--- Certificates that are closed: what the rules make of the sets of a certificate is among its sets again. So each
--- cell, and
--- each set between two events, can be checked by itself, with what the cells say of sends.
+-- Certificates that are closed: what the rules make of the sets of a certificate is among its sets again. So each cell,
+-- and each set between two events, can be checked by itself, with what the cells say of sends.
 use Rattle.std.specs.Prelude.{◌≡◌, ◌≤◌, ℕ, suc, Some, slice_get}
 use Rattle.flow_base.specs.declared.bounds.Bounds.{Bounds}
 use Rattle.actions.specs.declared.event.Event.{Event}
@@ -37,9 +36,9 @@ pub record StandsFreed (n : Names) (cert : Certificate) (x : Around) (w : World)
   pub config : w.marks ≡ x.config
   pub data_in : IsBox n (always_of cert) (freed n (always_of cert) (box_of x.spans.items)) w.vals
 
--- Each value of an input is in its span. Where all cells are right at a height and below it, each is right at the
--- next one, the
--- start ends in a set between two events, and so does each event that can be given, from such a set with any inputs.
+-- Each value of an input is in its span. Where all cells are right at a height and below it, each is right at the next
+-- one, the start ends in a set between two events, and so does each event that can be given, from such a set with any
+-- inputs.
 pub record IsClosed (c : Chart) (cert : Certificate) : Type 0 where
   pub inputs : CoversInputs c.names (always_of cert)
   pub cells : (b : Bounds) (n : ℕ) → AreRight c b cert n → (i : ℕ) (cell : Cell)

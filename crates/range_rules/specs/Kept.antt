@@ -15,8 +15,7 @@ use Rattle.range_spans.specs.declared.known.Known.TheVariants.{Truth}
 use Rattle.range_spans.specs.Known.{guess}
 
 -- Each datum is in its span, and only faults that there may be have come. Without a fault the world is one of those
--- between
--- two events.
+-- between two events.
 pub record KeepsRanges (c : Chart) (cert : Certificate) (m : Moment) : Type 0 where
   pub data_in : AreAlways cert m.world
   pub zero : cert.zero ≡ false → m.fault ≢ Some faults.Zero

@@ -39,8 +39,7 @@ abbrev pub AreAlways : Certificate → World → Type 0
 AreAlways cert w = (v : ℕ) → IsIn (always_of cert v) (datum w.vals v).mantissa
 
 -- Work ends with an answer and in a world that are among some, or with a fault that there may be. Of work that isn't
--- over
--- nothing is said.
+-- over nothing is said.
 abbrev pub EndsIn : {A : Type 0} → Certificate → (A → World → Type 0) → Run A → Type 0
 EndsIn cert ends (Ended a w) = ends a w
 EndsIn cert ends (Faulted fault w) = MayBe cert fault × AreAlways cert w

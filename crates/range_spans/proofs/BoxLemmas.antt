@@ -1,47 +1,42 @@
 -- What guards, assignments and inputs make of data in a box stays in what is made of the box.
-use Rattle.std.proofs.Common.{◌≡◌, ◌≢◌, ◌+◌, ◌-◌, ◌^◌, ◌≤◌, ◌<◌, ◌≤ℤ◌, ◌==◌, ◌⊎◌, inl, inr, ℕ, zero, suc, ℤ, pos}
-use Rattle.std.proofs.Common.{negsuc, ◌*ℤ◌}
-use Rattle.std.proofs.Common.{Bool, true, false, not, ◌&&◌, cond, int_lt, int_le, Ok, Err, List, [], ◌∷◌, map, length}
+use Rattle.std.proofs.Common.{◌≡◌, ◌^◌, ◌≤◌, ◌<◌, ◌≤ℤ◌, ℕ, zero, suc, ℤ, pos}
+use Rattle.std.proofs.Common.{negsuc}
+use Rattle.std.proofs.Common.{Bool, true, false, ◌&&◌, cond, int_lt, int_le, Ok, Err, List, [], ◌∷◌, map, length}
 use Rattle.std.proofs.Common.{get_or}
-use Rattle.std.proofs.Common.{Option, Some, None, Result, refl, sym, ap, ◌∙◌, subst, arith, IsTrue, nat_lt, slice_get}
-use Rattle.std.proofs.Common.{get_or-set_other, if◌then◌else◌, nat_le, nat_eq}
+use Rattle.std.proofs.Common.{Option, Some, None, Result, refl, sym, ap, ◌∙◌, subst, arith, slice_get}
+use Rattle.std.proofs.Common.{get_or-set_other, if◌then◌else◌}
 use Rattle.std.proofs.lemmas.Int.{ints}
 use Rattle.std.proofs.lemmas.List.{get_or-set_same, length-map}
-use Rattle.std.proofs.lemmas.Bool.Decides.{eqb_tells}
-use Rattle.std.proofs.lemmas.Nat.{pow_pos}
 use Rattle.std.proofs.Math.Pow.{shr_mono}
 use Rattle.flow_base.specs.declared.fault.Fault.{Fault}
-use Rattle.flow_base.specs.declared.fault.Fault.TheVariants as faults
 use Rattle.fixed_point.specs.declared.fitting.Mode.{Mode}
 use Rattle.fixed_point.specs.declared.fitting.Mode.TheVariants.{Saturate, Wrap, Error}
 use Rattle.fixed_point.specs.declared.fitting.Overflow.{Overflow}
 use Rattle.fixed_point.specs.declared.num.Num.{Num}
 use Rattle.fixed_point.specs.declared.scale.Scale.{Scale}
 use Rattle.fixed_point.specs.Numbers.{floored, floor_by}
-use Rattle.fixed_point.specs.Scales.{least, greatest, is_in_range, fitted, within, by_mode, wrapped}
+use Rattle.fixed_point.specs.Scales.{least, greatest, is_in_range, fitted, by_mode, wrapped}
 use Rattle.active_config.specs.Marks.{Configuration}
-use Rattle.actions.specs.declared.expr.Op.{Op}
 use Rattle.actions.specs.declared.expr.Value.{Value}
 use Rattle.actions.specs.declared.expr.Value.TheVariants as values
 use Rattle.actions.specs.declared.names.Sort.{Sort}
 use Rattle.actions.specs.declared.names.Sort.TheVariants as sorts
 use Rattle.actions.specs.declared.names.Var.{Var}
-use Rattle.actions.specs.declared.names.VarKind.{VarKind}
 use Rattle.actions.specs.declared.names.VarKind.TheVariants as kinds
-use Rattle.actions.specs.Data.{Datum, datum, no_datum, initial, declared_datum, is_mantissa_of, kept, kept_number, keep}
+use Rattle.actions.specs.Data.{Datum, datum, no_datum, initial, declared_datum, kept, kept_number, keep}
 use Rattle.actions.specs.Data.{assigned}
 use Rattle.actions.specs.Data.{with_mantissa, mantissa_in}
 use Rattle.actions.specs.Engines.{IsInputValue}
-use Rattle.actions.specs.Exprs.{Expr, Lit, Flag, Read, Active, Neg, Not, Bin}
+use Rattle.actions.specs.Exprs.{Expr}
 use Rattle.actions.specs.Names.{Names}
-use Rattle.actions.specs.Values.{Valued, value_of, flag_of}
+use Rattle.actions.specs.Values.{value_of, flag_of}
 use Rattle.actions.specs.World.{Declaration, of_data, of_names}
-use Rattle.actions.proofs.AssignmentLemmas.{assigned_gives, of_data-assigned}
+use Rattle.actions.proofs.AssignmentLemmas.{of_data-assigned}
 use Rattle.actions.proofs.RangeLemmas.{fitted_is_in}
 use Rattle.actions.proofs.StoredLemmas.{stored, stored_in_range, mantissa_there}
 use Rattle.range_spans.specs.Spans.{Span, IsIn, is_inside, greater, smaller}
 use Rattle.range_spans.specs.Known.{Known, Truth, Number, Nothing, Has, Tells, guess}
-use Rattle.range_spans.specs.Boxes.{Box, sort_at, mode_at, IsBox, put, Kept, clamped, all_in_range, by_mode_kept}
+use Rattle.range_spans.specs.Boxes.{Box, sort_at, mode_at, IsBox, put, Kept, all_in_range, by_mode_kept}
 use Rattle.range_spans.specs.Boxes.{fit_kept}
 use Rattle.range_spans.specs.Boxes.{floors, number_kept, point, may_be, narrowed, IsStored}
 use Rattle.range_spans.specs.Boxes.{is_input, is_input_at, freed, CoversInputs}

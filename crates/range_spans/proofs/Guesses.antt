@@ -1,18 +1,14 @@
 -- What is known of the value of an expression holds.
-use Rattle.std.proofs.Common.{◌≡◌, ◌≢◌, ◌+◌, ◌-◌, ◌*◌, ◌^◌, ◌≤◌, ◌<◌, ◌≤ℤ◌, ◌==◌, ℕ, zero, suc, max, ℤ, pos, negsuc}
+use Rattle.std.proofs.Common.{◌≡◌, ◌+◌, ◌-◌, ◌*◌, ◌^◌, ◌≤◌, ◌<◌, ◌≤ℤ◌, ℕ, suc, max, ℤ, pos, negsuc}
 use Rattle.std.proofs.Common.{◌+ℤ◌, ◌-ℤ◌}
 use Rattle.std.proofs.Common.{◌*ℤ◌, neg_ℤ, unsigned_abs, Bool, true, false, not, ◌&&◌, ◌||◌, cond, int_lt, int_le, Ok}
 use Rattle.std.proofs.Common.{Err}
-use Rattle.std.proofs.Common.{List, Result, refl, sym, ap, ◌∙◌, subst, arith}
-use Rattle.std.proofs.lemmas.Int.{ints, unsigned_abs-mul}
-use Rattle.std.proofs.lemmas.Nat.{mul-le, pow_pos}
+use Rattle.std.proofs.Common.{List, refl, sym, subst, arith}
+use Rattle.std.proofs.lemmas.Int.{ints}
+use Rattle.std.proofs.lemmas.Nat.{mul-le}
 use Rattle.std.specs.Prelude.{if◌then◌else◌, nat_eq}
 use Rattle.std.specs.Ordering.{is_eq, is_lt, is_le, is_gt, is_ge, int_cmp}
-use Rattle.std.specs.declared.cmp.Ordering.{Ordering}
-use Rattle.flow_base.specs.declared.fault.Fault.{Fault}
-use Rattle.flow_base.specs.declared.fault.Fault.TheVariants.{Zero as ZeroDivisor}
 use Rattle.fixed_point.specs.declared.num.Num.{Num}
-use Rattle.fixed_point.specs.declared.quotient.Zero.{Zero}
 use Rattle.fixed_point.specs.Numbers.{scaled, common_frac, dividend_of, floor_div, order_of, sum_of, difference_of}
 use Rattle.fixed_point.specs.Numbers.{product_of, negation_of}
 use Rattle.active_config.specs.Marks.{Configuration, is_on}
@@ -35,7 +31,7 @@ use Rattle.std.proofs.Common.{◌/◌}
 use Rattle.fixed_point.specs.Numbers.{floor_by}
 use Rattle.range_spans.specs.Known.{quotients}
 use Rattle.std.proofs.Math.IntN.{*ℤ_comm, *ℤ-negsuc}
-use Rattle.range_spans.specs.Spans.{Span, IsIn, around_zero, magnitude, raised, smaller, greater, between, joined}
+use Rattle.range_spans.specs.Spans.{Span, IsIn, around_zero, magnitude, raised, between, joined}
 use Rattle.range_spans.specs.Spans.{times}
 use Rattle.range_spans.specs.Spans.{products}
 use Rattle.range_spans.specs.Known.{Known, Truth, Number, Nothing, Has, Guess, Tells, not_known, neg_known, of_flags}

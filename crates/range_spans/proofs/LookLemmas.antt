@@ -1,16 +1,15 @@
 -- What is declared, and boxes of lists.
-use Rattle.std.proofs.Common.{◌≡◌, ◌≢◌, ◌<◌, ◌≤◌, ◌==◌, ℕ, zero, suc, pos, nat_eq, Bool, true, false, List, [], ◌∷◌}
-use Rattle.std.proofs.Common.{length, map, Option, Some, None, slice_get, slice_set, slice_index_or}
-use Rattle.std.proofs.Common.{get_or, refl, sym, ap, ◌∙◌, arith, rules}
+use Rattle.std.proofs.Common.{◌≡◌, ◌<◌, ℕ, zero, suc, nat_eq, Bool, true, false, List, [], ◌∷◌}
+use Rattle.std.proofs.Common.{length, map, slice_set, slice_index_or}
+use Rattle.std.proofs.Common.{get_or, refl, sym, ap, ◌∙◌, arith}
 use Rattle.std.proofs.Math.Path.{fun_ext}
 use Rattle.std.proofs.lemmas.Grind.{get_or-set_at}
 use Rattle.std.proofs.lemmas.List.{get_or-set_other}
-use Rattle.actions.specs.declared.names.Sort.{Sort}
 use Rattle.actions.specs.declared.names.Var.{Var}
 use Rattle.actions.specs.Data.{Datum, datum, initial, declared_datum, no_datum}
 use Rattle.actions.specs.Names.{Names}
 use Rattle.range_spans.specs.Spans.{Span}
-use Rattle.range_spans.specs.Narrow.{Box, put}
+use Rattle.range_spans.specs.Narrow.{put}
 use Rattle.range_spans.specs.Boxes.{box_of, sort_at, mode_at}
 
 declared_at : (vars : List Var) (v : ℕ) (decl : Var) → v < length vars → decl ≡ get_or vars v decl

@@ -1,15 +1,12 @@
 -- What a guard leaves of a box has the data at which the guard has its truth.
-use Rattle.std.proofs.Common.{◌≡◌, ◌≢◌, ◌+◌, ◌-◌, ◌^◌, ◌≤◌, ◌<◌, ◌≤ℤ◌, ◌==◌, ◌⊎◌, inl, inr, ℕ, zero, suc, max, ℤ, pos}
-use Rattle.std.proofs.Common.{negsuc}
-use Rattle.std.proofs.Common.{◌+ℤ◌, ◌-ℤ◌, ◌*ℤ◌, Bool, true, false, not, ◌&&◌, ◌||◌, cond, int_lt, int_le, Ok, Err, List}
+use Rattle.std.proofs.Common.{◌≡◌, ◌≢◌, ◌-◌, ◌^◌, ◌≤◌, ◌==◌, ◌⊎◌, inl, inr, ℕ, max, ℤ, pos}
+use Rattle.std.proofs.Common.{◌*ℤ◌, Bool, true, false, not, ◌&&◌, ◌||◌, cond, int_lt, Ok, Err, List}
 use Rattle.std.proofs.Common.{Option}
-use Rattle.std.proofs.Common.{Some, None, Result, refl, sym, ap, ◌∙◌, subst, arith, nat_le, if◌then◌else◌}
+use Rattle.std.proofs.Common.{Some, None, refl, sym, ap, ◌∙◌, subst, arith, nat_le}
 use Rattle.std.proofs.Common.{nat_eq}
 use Rattle.std.proofs.lemmas.Int.{ints}
 use Rattle.std.proofs.lemmas.Bool.Decides.{eqb_tells}
 use Rattle.std.specs.Ordering.{is_eq, is_lt, is_le, is_gt, is_ge, int_cmp}
-use Rattle.std.specs.declared.cmp.Ordering.{Ordering}
-use Rattle.flow_base.specs.declared.fault.Fault.{Fault}
 use Rattle.fixed_point.specs.declared.num.Num.{Num}
 use Rattle.fixed_point.specs.declared.scale.Scale.{Scale}
 use Rattle.fixed_point.specs.Numbers.{order_of}
@@ -23,10 +20,10 @@ use Rattle.actions.specs.declared.names.Sort.{Sort}
 use Rattle.actions.specs.declared.names.Sort.TheVariants as sorts
 use Rattle.actions.specs.Data.{Datum, datum, value_of_datum, value_at}
 use Rattle.actions.specs.Exprs.{Expr, Lit, Flag, Read, Active, Neg, Not, Bin}
-use Rattle.actions.specs.Values.{Valued, with_value, value_of, flag_of, number_of, applied, decides}
-use Rattle.range_spans.specs.Spans.{Span, IsIn, greater, smaller, joined}
+use Rattle.actions.specs.Values.{Valued, with_value, value_of, flag_of, applied, decides}
+use Rattle.range_spans.specs.Spans.{Span, IsIn, joined}
 use Rattle.range_spans.specs.Narrow.{joined_box}
-use Rattle.range_spans.specs.Narrow.{flag_narrow, without}
+use Rattle.range_spans.specs.Narrow.{flag_narrow}
 use Rattle.range_spans.specs.Narrow.{Box, put, cut, cut_at, datum_of, literal_of, compare_narrow, both_narrow, narrowed}
 use Rattle.range_spans.specs.Narrow.{right_box}
 

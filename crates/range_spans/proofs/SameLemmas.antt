@@ -1,6 +1,6 @@
 -- Lists that are the same.
-use Rattle.std.proofs.Common.{◌≡◌, ◌≢◌, ℕ, zero, suc, ◌<◌, Bool, true, false, List, [], ◌∷◌, length, get_or, Option}
-use Rattle.std.proofs.Common.{Some, None, refl, ap, arith}
+use Rattle.std.proofs.Common.{◌≡◌, ℕ, zero, suc, ◌<◌, Bool, true, false, List, [], ◌∷◌, length, get_or, Option}
+use Rattle.std.proofs.Common.{None, refl, arith}
 use Rattle.std.specs.Bool.{OnTrue}
 
 -- lists with the same entries are the same

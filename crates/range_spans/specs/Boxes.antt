@@ -16,7 +16,7 @@ use Rattle.actions.specs.declared.names.VarKind.TheVariants as kinds
 use Rattle.actions.specs.Data.{Datum, datum, initial, is_mantissa_of}
 use Rattle.actions.specs.Names.{Names}
 use Rattle.actions.specs.World.{of_data, of_names}
-use Rattle.range_spans.specs.Spans.{Span, IsIn, is_inside, greater, smaller}
+use Rattle.range_spans.specs.Spans.{Span, IsIn, greater, smaller}
 use Rattle.range_spans.specs.Known.{Known, Truth, Number, Nothing}
 -- the mantissas that a datum may keep, and whether there may be an overflow
 pub use Rattle.range_spans.specs.declared.kept.Kept.{Kept}

@@ -89,8 +89,7 @@ abbrev pub joined_box : Box → Box → Box
 joined_box left right v = joined (left v) (right v)
 
 -- both sides of `&&` have the value true where it has, and one of them false; left and right are what they leave. So
--- with
--- `||` and false
+-- with `||` and false
 abbrev pub both_narrow : Op → Bool → (Box → Box) → (Box → Box) → (Box → Box) → Box → Box
 both_narrow ops.And true left right other box = right (left box)
 both_narrow ops.And false left right other box = joined_box (left box) (right box)
@@ -119,8 +118,8 @@ narrowed sort (Bin op a b) truth box =
     both_narrow op truth (narrowed sort a truth) (narrowed sort b truth)
     (compare_narrow sort op truth (datum_of a) (literal_of b)) box
 
--- the box in which the right side is evaluated: that of `&&` only where the left one is true, that of `||` where it
--- is false
+-- the box in which the right side is evaluated: that of `&&` only where the left one is true, that of `||` where it is
+-- false
 abbrev pub right_box : (ℕ → Sort) → Op → Expr → Box → Box
 right_box sort ops.And a box = narrowed sort a true box
 right_box sort ops.Or a box = narrowed sort a false box

@@ -1,6 +1,6 @@
 -- Spans of whole numbers.
 pub use Rattle.range_spans.specs.declared.span.Span.{Span}
-use Rattle.std.specs.Prelude.{ℕ, ◌*◌, ◌^◌, ◌≤ℤ◌, max, ℤ, pos, ◌*ℤ◌, neg_ℤ, unsigned_abs, Bool, ◌&&◌, int_lt, int_le}
+use Rattle.std.specs.Prelude.{ℕ, ◌^◌, ◌≤ℤ◌, max, ℤ, pos, ◌*ℤ◌, neg_ℤ, unsigned_abs, Bool, ◌&&◌, int_le}
 use Rattle.std.specs.Prelude.{if◌then◌else◌}
 
 -- a number of a span

@@ -1,4 +1,4 @@
-use Rattle.std.proofs.Common.{◌≡◌, ◌-◌, ◌^◌, ◌≤◌, ◌*ℤ◌, ℕ, ℤ, pos, nat_le, Bool, true, FitsSigned, IfOk, Result, ap}
+use Rattle.std.proofs.Common.{◌≡◌, ◌-◌, ◌^◌, ◌≤◌, ◌*ℤ◌, ℕ, ℤ, pos, nat_le, Bool, true, FitsSigned, IfOk, ap}
 use Rattle.std.proofs.Common.{sym, ◌∙◌, cond, subst, rules, arith}
 use Rattle.std.proofs.lemmas.Int.{to_z-of_z}
 use Rattle.std.specs.Int.{w128}

@@ -1,7 +1,7 @@
 use Rattle.std.proofs.Common.{◌≡◌, ℤ, FitsSigned, ap, ◌∙◌, rules}
 use Rattle.std.proofs.lemmas.Int.{to_z-of_z}
 use Rattle.std.specs.Int.{w128}
-use Rattle.range_spans.specs.Spans.{Span, joined, times, products}
+use Rattle.range_spans.specs.Spans.{Span, joined, times}
 use Rattle.range_spans.proofs.span.Span.products.Goals as goal
 
 -- the span that joins equal ones

@@ -1,5 +1,6 @@
-//! Which functions of a file are bare: the greatest set of functions that need no parameters of
-//! theirs. No answer depends on how it is found, since it is checked.
+//! Which functions of a file are bare: the search begins with all of them, and takes out those that
+//! need a parameter. It is checked that what is left needs none; that no more could be left isn't
+//! proved.
 ghost use Rattle.std.specs.Prelude.{◌≡◌, List, IfOk, IsTrue, false};
 ghost use Rattle.c_subset.specs.Trees as c;
 ghost use Rattle.c_bare.specs.Needs as needs;

@@ -205,21 +205,21 @@ struct_text chart L K =
 unfoldable pub init_text : Labels → Shape → List ℕ
 init_text L K =
     codes "/* Stores the first values of all data; nothing is active. Inputs that are stored after it hold\n"
-    ++ (codes "   at the start. */\n" ++ prototype_text L (init_function K))
+    ++ (codes "   at the start. */\n" ++ prototype_text L (init_function K) false)
 
 -- the call that begins a run
 unfoldable pub start_text : List ℕ → Labels → Shape → List ℕ
 start_text chart L K =
     named_text (codes "\n/* Begins the run: enters the chart. Returns false, too, and changes nothing, unless ") chart
     (codes "init\n   was called since the last run began. */\n")
-    ++ prototype_text L (start_function K)
+    ++ prototype_text L (start_function K) false
 
 -- the call for an event
 unfoldable pub react_text : List ℕ → Labels → Shape → List ℕ
 react_text chart L K =
     named_text (codes "\n/* Takes an event: ") chart (codes "TICK or one of the input events; any other number is a fault.\n")
     ++ (codes "   Returns false, too, and changes nothing, before the start and after a fault. */\n"
-    ++ (prototype_text L (react_function K) ++ codes "\n"))
+    ++ (prototype_text L (react_function K) false ++ codes "\n"))
 
 -- ---- the whole
 

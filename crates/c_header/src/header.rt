@@ -235,7 +235,7 @@ fn print_init(
         "/* Stores the first values of all data; nothing is active. Inputs that are stored after it hold\n",
     )?;
     out.push_str("   at the start. */\n")?;
-    print_prototype(out, labels, shape.init_function())
+    print_prototype(out, labels, shape.init_function(), false)
 }
 
 /// Appends the call that begins a run.
@@ -255,7 +255,7 @@ fn print_start(
         chart,
         "init\n   was called since the last run began. */\n",
     )?;
-    print_prototype(out, labels, shape.start_function())
+    print_prototype(out, labels, shape.start_function(), false)
 }
 
 /// Appends the call for an event.
@@ -278,6 +278,6 @@ fn print_react(
     out.push_str(
         "   Returns false, too, and changes nothing, before the start and after a fault. */\n",
     )?;
-    print_prototype(out, labels, shape.react_function())?;
+    print_prototype(out, labels, shape.react_function(), false)?;
     out.push_str("\n")
 }

@@ -40,12 +40,12 @@ record HasHead (L : Labels) (f : ℕ) (kind : Kind) (g : Function) : Type 0 wher
   parameters : parameter_types L f kind ≡ g.parameters
 
 -- then its declaration is its head
-declared : (L : Labels) (f : ℕ) (kind : Kind) (g : Function) → function_kind L f ≡ kind → HasHead L f kind g
-    → prototype_text L f ≡ head_text L f g.result g.parameters ++ (codes ";" ++ 10 ∷ [])
-declared L f kind g is head =
-    ap (λ (k : Kind). head_text L f (result_type k) (parameter_types L f k) ++ (codes ";" ++ 10 ∷ [])) is
-    ∙ ap (λ (t : CType). head_text L f t (parameter_types L f kind) ++ (codes ";" ++ 10 ∷ [])) head.result
-    ∙ ap (λ (ts : List CType). head_text L f g.result ts ++ (codes ";" ++ 10 ∷ [])) head.parameters
+declared : (L : Labels) (f : ℕ) (r : Bool) (kind : Kind) (g : Function) → function_kind L f ≡ kind → HasHead L f kind g
+    → prototype_text L f r ≡ head_text L f r g.result g.parameters ++ (codes ";" ++ 10 ∷ [])
+declared L f r kind g is head =
+    ap (λ (k : Kind). head_text L f r (result_type k) (parameter_types L f k) ++ (codes ";" ++ 10 ∷ [])) is
+    ∙ ap (λ (t : CType). head_text L f r t (parameter_types L f kind) ++ (codes ";" ++ 10 ∷ [])) head.result
+    ∙ ap (λ (ts : List CType). head_text L f r g.result ts ++ (codes ";" ++ 10 ∷ [])) head.parameters
 
 module _ (chart : List ℕ) (K : Shape) (bodies : ℕ → plan.Block) (p q : ℕ) where
   abbrev names : Labels
@@ -103,10 +103,10 @@ module _ (chart : List ℕ) (K : Shape) (bodies : ℕ → plan.Block) (p q : ℕ
       absurd (omega (arith, within))
 
   -- the declaration of a function is its head
-  pub prototype_is_head : (f : ℕ) (g : Function) → slice_get (functions_c K bodies ++ outer) f ≡ Some g
-      → prototype_text names f ≡ head_text names f g.result g.parameters ++ (codes ";" ++ 10 ∷ [])
+  pub prototype_is_head : (f : ℕ) (r : Bool) (g : Function) → slice_get (functions_c K bodies ++ outer) f ≡ Some g
+      → prototype_text names f r ≡ head_text names f r g.result g.parameters ++ (codes ";" ++ 10 ∷ [])
   unfolding functions_c
-  prototype_is_head f g got =
+  prototype_is_head f r g got =
       let all = append_assoc firsts others outer in
       let is : get_or (firsts ++ (others ++ outer)) f g ≡ g =
       get_or_from_slice_get (firsts ++ (others ++ outer)) f g g
@@ -116,12 +116,12 @@ module _ (chart : List ℕ) (K : Shape) (bodies : ℕ → plan.Block) (p q : ℕ
       slice_get_within (firsts ++ (others ++ outer)) f g
       (subst (λ (xs : List Function). slice_get xs f ≡ Some g) all got) in
       ⊎_elim
-      (λ li. declared names f Procedure g (kind_first names f li)
+      (λ li. declared names f r Procedure g (kind_first names f li)
       (subst (HasHead names f Procedure)
       (sym (get_or-map-range_with_len (λ n. procedure_c K (bodies n)) 0 K.procs f f g li (omega arith))
       ∙ sym (get_or_append_left firsts (others ++ outer) g f (omega (arith, sized, li))) ∙ is)
       (record { result = refl; parameters = refl })))
-      (λ pi. declared names f (get_or other_kinds (f - K.procs) Outside) g (kind_other names f pi)
+      (λ pi. declared names f r (get_or other_kinds (f - K.procs) Outside) g (kind_other names f pi)
       (other_heads f (f - K.procs) g (omega (arith, pi))
       (omega (arith, length-append firsts (others ++ outer), sized, within, pi))
       (sym (get_or-append_right firsts (others ++ outer) K.procs f g sized pi) ∙ is)))

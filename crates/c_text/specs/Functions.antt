@@ -45,18 +45,15 @@ linkage_text Noted = codes "static "
 linkage_text (Floor w) = codes "static "
 linkage_text Outside = []
 
--- what stands before the struct of a function that only reads it
-abbrev pub const_text : Kind → List ℕ
-const_text Procedure = []
-const_text Home = codes "const "
-const_text Noted = []
-const_text (Floor w) = []
-const_text Outside = []
+-- what stands before the struct of a function that only reads it (6.7.3 p5)
+abbrev pub const_text : Bool → List ℕ
+const_text true = codes "const "
+const_text false = []
 
--- the struct as a parameter
-abbrev pub struct_parameter : Labels → Kind → List ℕ
-struct_parameter L kind =
-    if takes_struct kind then const_text kind ++ (name_of_chart L.chart (codes "chart") ++ codes " *m") else []
+-- the struct as a parameter, of a function that only reads it or that may change it
+abbrev pub struct_parameter : Labels → Kind → Bool → List ℕ
+struct_parameter L kind only_reads =
+    if takes_struct kind then const_text only_reads ++ (name_of_chart L.chart (codes "chart") ++ codes " *m") else []
 
 -- T x
 abbrev pub local_text : Labels → Kind → CType → ℕ → List ℕ
@@ -72,19 +69,21 @@ parameters_text L kind k [] = []
 parameters_text L kind k (t ∷ ts) = parameter_text L kind k t ++ parameters_text L kind (k + 1) ts
 
 -- (CHART_chart *m, T x, ..)
-unfoldable pub list_text : Labels → Kind → List CType → List ℕ
-list_text L kind ts = codes "(" ++ (struct_parameter L kind ++ (parameters_text L kind 0 ts ++ codes ")"))
+unfoldable pub list_text : Labels → Kind → Bool → List CType → List ℕ
+list_text L kind only_reads ts =
+    codes "(" ++ (struct_parameter L kind only_reads ++ (parameters_text L kind 0 ts ++ codes ")"))
 
 -- static T f(CHART_chart *m, T x, ..)
-unfoldable pub head_text : Labels → ℕ → CType → List CType → List ℕ
-head_text L f result ts =
+unfoldable pub head_text : Labels → ℕ → Bool → CType → List CType → List ℕ
+head_text L f only_reads result ts =
     linkage_text (function_kind L f) ++ (type_text L.chart result ++ (32 ∷ (function_label L f
-    ++ list_text L (function_kind L f) ts)))
+    ++ list_text L (function_kind L f) only_reads ts)))
 
--- the declaration of the function with that number
-abbrev pub prototype_text : Labels → ℕ → List ℕ
-prototype_text L f =
-    head_text L f (result_type (function_kind L f)) (parameter_types L f (function_kind L f)) ++ (codes ";" ++ 10 ∷ [])
+-- the declaration of the function with that number, which only reads the struct or may change it
+abbrev pub prototype_text : Labels → ℕ → Bool → List ℕ
+prototype_text L f only_reads =
+    head_text L f only_reads (result_type (function_kind L f)) (parameter_types L f (function_kind L f))
+    ++ (codes ";" ++ 10 ∷ [])
 
 -- ---- the locals that are declared
 
@@ -219,9 +218,9 @@ unused_text L kind lines =
 
 -- ---- a function
 
--- The function with that number
-unfoldable pub function_text : Labels → ℕ → CType → List CType → List Line → List ℕ
-function_text L f result ts lines = let kind = function_kind L f in
-    head_text L f result ts ++ (10 ∷ 123 ∷ 10 ∷ (declarations_text L kind (locals_set ts lines)
+-- The function with that number, which only reads the struct or may change it
+unfoldable pub function_text : Labels → ℕ → Bool → CType → List CType → List Line → List ℕ
+function_text L f only_reads result ts lines = let kind = function_kind L f in
+    head_text L f only_reads result ts ++ (10 ∷ 123 ∷ 10 ∷ (declarations_text L kind (locals_set ts lines)
     ++ (unread_text kind lines (parameters_from 0 ts)
     ++ (unused_text L kind lines ++ (lines_text L kind result 1 lines ++ (codes "}" ++ 10 ∷ []))))))

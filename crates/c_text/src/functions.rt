@@ -39,24 +39,31 @@ fn linkage_word(kind: Kind) -> &'static str
     }
 }
 
-/// Appends the declaration of a function, by its number, with a newline. This project's choice.
-pub fn print_prototype(out: &mut String, labels: &Labels<'_>, number: u32) -> Result<(), AllocError>
+/// Appends the declaration of a function, by its number, with a newline. It only reads the struct, or
+/// may change it. This project's choice.
+pub fn print_prototype(
+    out: &mut String,
+    labels: &Labels<'_>,
+    number: u32,
+    only_reads: bool,
+) -> Result<(), AllocError>
     ensures { OnOk result (string_bytes out.new ≡ string_bytes out.old
-        ++ spec.prototype_text (labels_of labels.now) number) }
+        ++ spec.prototype_text (labels_of labels.now) number only_reads) }
 {
     let kind = function_kind(labels, number);
     match kind {
-        Kind::Procedure => print_declared(out, labels, number, kind, &[WORD; 5]),
-        Kind::Home => print_declared(out, labels, number, kind, &[WORD]),
-        Kind::Noted => print_declared(out, labels, number, kind, &[WORD; 6]),
+        Kind::Procedure => print_declared(out, labels, number, kind, only_reads, &[WORD; 5]),
+        Kind::Home => print_declared(out, labels, number, kind, only_reads, &[WORD]),
+        Kind::Noted => print_declared(out, labels, number, kind, only_reads, &[WORD; 6]),
         Kind::Floor(width) => {
-            print_declared(out, labels, number, kind, &[CType::Signed(width); 2])
+            let of = CType::Signed(width);
+            print_declared(out, labels, number, kind, only_reads, &[of; 2])
         }
         Kind::Outside => {
             if u64::from(number) == u64::from(labels.procs) + 10 {
-                print_declared(out, labels, number, kind, &[WORD])
+                print_declared(out, labels, number, kind, only_reads, &[WORD])
             } else {
-                print_declared(out, labels, number, kind, &[])
+                print_declared(out, labels, number, kind, only_reads, &[])
             }
         }
     }
@@ -68,13 +75,14 @@ fn print_declared(
     labels: &Labels<'_>,
     number: u32,
     kind: Kind,
+    only_reads: bool,
     parameters: &[CType],
 ) -> Result<(), AllocError>
     ensures { OnOk result (string_bytes out.new ≡ string_bytes out.old
-        ++ (spec.head_text (labels_of labels.now) number (spec.result_type kind) parameters.now
-        ++ (codes ";" ++ 10 ∷ []))) }
+        ++ (spec.head_text (labels_of labels.now) number only_reads (spec.result_type kind)
+        parameters.now ++ (codes ";" ++ 10 ∷ []))) }
 {
-    print_head(out, labels, number, result_type(kind), parameters)?;
+    print_head(out, labels, number, only_reads, result_type(kind), parameters)?;
     out.push_str(";\n")
 }
 
@@ -84,18 +92,19 @@ fn print_head(
     out: &mut String,
     labels: &Labels<'_>,
     number: u32,
+    only_reads: bool,
     gives: CType,
     parameters: &[CType],
 ) -> Result<(), AllocError>
     ensures { OnOk result (string_bytes out.new ≡ string_bytes out.old
-        ++ spec.head_text (labels_of labels.now) number gives parameters.now) }
+        ++ spec.head_text (labels_of labels.now) number only_reads gives parameters.now) }
 {
     let kind = function_kind(labels, number);
     out.push_str(linkage_word(kind))?;
     print_type(out, labels.chart, gives)?;
     out.push_str(" ")?;
     print_function_label(out, labels, number)?;
-    print_list(out, labels, kind, parameters)
+    print_list(out, labels, kind, only_reads, parameters)
 }
 
 /// Appends the list of parameters.
@@ -104,13 +113,14 @@ fn print_list(
     out: &mut String,
     labels: &Labels<'_>,
     kind: Kind,
+    only_reads: bool,
     parameters: &[CType],
 ) -> Result<(), AllocError>
     ensures { OnOk result (string_bytes out.new ≡ string_bytes out.old
-        ++ spec.list_text (labels_of labels.now) kind parameters.now) }
+        ++ spec.list_text (labels_of labels.now) kind only_reads parameters.now) }
 {
     out.push_str("(")?;
-    print_struct_parameter(out, labels, kind)?;
+    print_struct_parameter(out, labels, kind, only_reads)?;
     print_parameters(out, labels, kind, parameters)?;
     out.push_str(")")
 }
@@ -120,12 +130,13 @@ fn print_struct_parameter(
     out: &mut String,
     labels: &Labels<'_>,
     kind: Kind,
+    only_reads: bool,
 ) -> Result<(), AllocError>
     ensures { OnOk result (string_bytes out.new ≡ string_bytes out.old
-        ++ spec.struct_parameter (labels_of labels.now) kind) }
+        ++ spec.struct_parameter (labels_of labels.now) kind only_reads) }
 {
     if takes_struct(kind) {
-        out.push_str(const_word(kind))?;
+        out.push_str(const_word(only_reads))?;
         print_chart_name(out, labels.chart, "chart")?;
         out.push_str(" *m")
     } else {
@@ -134,13 +145,10 @@ fn print_struct_parameter(
 }
 
 /// What stands before the struct of a function that only reads it.
-fn const_word(kind: Kind) -> &'static str
-    ensures { result.now ≡ spec.const_text kind }
+fn const_word(only_reads: bool) -> &'static str
+    ensures { result.now ≡ spec.const_text only_reads }
 {
-    match kind {
-        Kind::Home => "const ",
-        Kind::Procedure | Kind::Noted | Kind::Floor(_) | Kind::Outside => "",
-    }
+    if only_reads { "const " } else { "" }
 }
 
 /// Appends the parameters.
@@ -402,24 +410,25 @@ fn print_unread_parameters(
     print_unread(out, kind, &locals, lines)
 }
 
-/// Appends the function with that number, from its lines. How it is spelled is this project's
-/// choice.
+/// Appends the function with that number, from its lines. It only reads the struct, or may change it.
+/// How it is spelled is this project's choice.
 #[tactic(auto, unfolding(crate::specs::Functions::function_text))]
 pub fn print_function(
     alloc: Global,
     out: &mut String,
     labels: &Labels<'_>,
     number: u32,
+    only_reads: bool,
     function: &Function,
 ) -> Result<(), AllocError>
     ensures { OnOk result (string_bytes out.new ≡ string_bytes out.old
-        ++ spec.function_text (labels_of labels.now) number function.now.result
+        ++ spec.function_text (labels_of labels.now) number only_reads function.now.result
         (items_of function.now.parameters) (lines_in (items_of function.now.lines))) }
 {
     let kind = function_kind(labels, number);
     let types = function.parameters.items();
     let lines = function.lines.items();
-    print_head(out, labels, number, function.result, types)?;
+    print_head(out, labels, number, only_reads, function.result, types)?;
     out.push_str("\n{\n")?;
     print_opening_lines(alloc, out, labels, kind, types, lines)?;
     print_lines(out, labels, kind, function.result, lines)?;

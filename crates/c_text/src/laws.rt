@@ -1,6 +1,6 @@
 //! What names promise, for all charts at once.
-ghost use Rattle.std.specs.Prelude.{◌≡◌, ◌≢◌, ◌<◌, ◌^◌, ◌++◌, ℕ, List, [], map, length, false};
-ghost use Rattle.std.specs.Prelude.{◌∷◌, Some, codes, slice_get, slice_index_or};
+ghost use Rattle.std.specs.Prelude.{◌≡◌, ◌≢◌, ◌<◌, ◌^◌, ◌++◌, ℕ, List, [], map, length, Bool};
+ghost use Rattle.std.specs.Prelude.{false, ◌∷◌, Some, codes, slice_get, slice_index_or};
 ghost use Rattle.actions.specs.declared.names.Var.{Var};
 ghost use Rattle.c_subset.specs.declared.trees.CType.{CType};
 ghost use Rattle.c_subset.specs.Meaning.{CValue};
@@ -52,11 +52,13 @@ pub fn fields_are_those_of_the_struct()
     ensures names { (L : Labels) → length (field_labels L) ≡ length (field_types L) }
 {}
 
-/// The declaration of each function of a file is the head of that function, and a semicolon.
+/// The declaration of each function of a file, of which it is told whether it only reads the struct,
+/// is the head of that function, and a semicolon.
 pub fn declarations_are_heads()
-    ensures { (chart : List ℕ) (K : Shape) (bodies : ℕ → plan.Block) (p q f : ℕ) (g : Function)
+    ensures { (chart : List ℕ) (K : Shape) (bodies : ℕ → plan.Block) (p q f : ℕ) (only_reads : Bool)
+        (g : Function)
         → slice_get (functions_c K bodies ++ init_c K ∷ start_c K p ∷ react_c K q ∷ []) f ≡ Some g
-        → prototype_text (labels_for chart K.names K.tree K.procs) f
-        ≡ head_text (labels_for chart K.names K.tree K.procs) f g.result g.parameters
+        → prototype_text (labels_for chart K.names K.tree K.procs) f only_reads
+        ≡ head_text (labels_for chart K.names K.tree K.procs) f only_reads g.result g.parameters
         ++ (codes ";" ++ 10 ∷ []) }
 {}

@@ -82,7 +82,14 @@ fn print_declared(
         ++ (spec.head_text (labels_of labels.now) number only_reads (spec.result_type kind)
         parameters.now ++ (codes ";" ++ 10 ∷ []))) }
 {
-    print_head(out, labels, number, only_reads, result_type(kind), parameters)?;
+    print_head(
+        out,
+        labels,
+        number,
+        only_reads,
+        result_type(kind),
+        parameters,
+    )?;
     out.push_str(";\n")
 }
 

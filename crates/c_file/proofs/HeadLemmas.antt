@@ -80,19 +80,19 @@ module _ {c : Chart} {b : Bounds} {k : Code} {tags : List Tag} {origins : List �
       ∙ ap (λ (t : Tree). labels_for (chart_name c) c.names t (length k.procedures.procs)) (sym tree)
 
   -- the declaration of a function of the file is its head
-  pub declared_as_head : (T : Tests) (limits : Bounds) (room f : ℕ) (g : Function) → IsWritten c b k tags origins
+  pub declared_as_head : (T : Tests) (limits : Bounds) (room f : ℕ) (r : Bool) (g : Function) → IsWritten c b k tags origins
       → slice_get (written_file k T limits room).functions f ≡ Some g
-      → prototype_text (names_in c k) f
-      ≡ head_text (names_in c k) f g.result g.parameters ++ (codes ";" ++ 10 ∷ [])
-  declared_as_head T limits room f g is there =
+      → prototype_text (names_in c k) f r
+      ≡ head_text (names_in c k) f r g.result g.parameters ++ (codes ";" ++ 10 ∷ [])
+  declared_as_head T limits room f r g is there =
       let K = shape_of k T limits room in
       let L : Labels = labels_for (chart_name c) k.names k.tree (length k.procedures.procs) in
       let has = head_kept (file_of k T limits room (plans_of k)).functions 0 (length k.procedures.procs) f g there in
-      let head : prototype_text L f ≡ head_text L f has.function.result has.function.parameters
+      let head : prototype_text L f r ≡ head_text L f r has.function.result has.function.parameters
       ++ (codes ";" ++ 10 ∷ []) =
-      prototype_is_head (chart_name c) K (plans_of k) k.procedures.start k.procedures.react f has.function has.there in
-      subst (λ (M : Labels). prototype_text M f ≡ head_text M f g.result g.parameters ++ (codes ";" ++ 10 ∷ []))
+      prototype_is_head (chart_name c) K (plans_of k) k.procedures.start k.procedures.react f r has.function has.there in
+      subst (λ (M : Labels). prototype_text M f r ≡ head_text M f r g.result g.parameters ++ (codes ";" ++ 10 ∷ []))
       (names_of_code is)
       (head
-      ∙ ap (λ (t : CType). head_text L f t has.function.parameters ++ (codes ";" ++ 10 ∷ [])) has.result
-      ∙ ap (λ (ts : List CType). head_text L f g.result ts ++ (codes ";" ++ 10 ∷ [])) has.parameters)
+      ∙ ap (λ (t : CType). head_text L f r t has.function.parameters ++ (codes ";" ++ 10 ∷ [])) has.result
+      ∙ ap (λ (ts : List CType). head_text L f r g.result ts ++ (codes ";" ++ 10 ∷ [])) has.parameters)

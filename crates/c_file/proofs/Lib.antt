@@ -1,4 +1,5 @@
 pub mod CallLemmas
+pub mod ChangeLemmas
 pub mod ReachLemmas
 pub mod HeightLemmas
 pub mod AskLemmas

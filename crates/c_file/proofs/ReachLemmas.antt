@@ -3,14 +3,10 @@ use Rattle.std.proofs.Common.{◌≡◌, ℕ, zero, suc, ◌+◌, ◌<◌, ◌�
 use Rattle.std.proofs.Common.{◌∷◌, length, drop, Some, slice_get, slice_index_or, slice_set, if◌then◌else◌, get_or}
 use Rattle.std.proofs.Common.{refl, sym, ap, ◌∙◌, subst, arith}
 use Rattle.std.proofs.lemmas.List.{at_drop_more, at_drop_all}
-use Rattle.c_subset.specs.Trees.{Function}
-use Rattle.c_text.specs.Labels.{Labels}
 use Rattle.code_shrink.specs.Search.{unset_count}
 use Rattle.code_shrink.proofs.Marking.{set_size, still_set, was_set}
-use Rattle.c_file.specs.Calls.{calls_from}
 use Rattle.c_file.specs.declared.calls.FunctionCall.{FunctionCall}
-use Rattle.c_file.specs.Reached.{IsReached, ReachedFromOutside, ReachedByCall, IsFlagged, outside_of, AreOutside}
-use Rattle.c_file.specs.Reached.{AreReached}
+use Rattle.c_file.specs.Reached.{IsReached, ReachedFromOutside, ReachedByCall, IsFlagged, AreStarting, AreExactly}
 use Rattle.c_file.specs.Closing.{is_new, followed, passed, finds_new, Closes}
 
 -- ---- truth values
@@ -299,17 +295,14 @@ all_flagged count outside calls flags size starts closed f (ReachedByCall i _ ca
     (closed i call at) caller in
     same_flag flags f (omega (arith, lt, size)) (ap (λ (g : ℕ). slice_index_or flags g true) e ∙ callee)
 
-pub reached_ends : (L : Labels) (functions : List Function) (start flags : List Bool)
-    → AreOutside L (length functions) start → Closes (calls_from 0 functions) start flags
-    → AreReached L functions flags
-reached_ends L functions start flags out closes =
-    let calls = calls_from 0 functions in
-    record {
-      size = closes.size ∙ out.size;
-      sound = subst (λ (n : ℕ). (f : ℕ) → IsFlagged flags f → IsReached n (outside_of L) calls f) out.size
-          (closes.sound (outside_of L)
-          (λ f h. let lt = set_there start f h in
-          ReachedFromOutside f lt (sym (out.each f (omega (arith, lt, out.size))) ∙ h)));
-      complete = all_flagged (length functions) (outside_of L) calls flags (closes.size ∙ out.size)
-          (λ f lt is. closes.kept f (out.each f lt ∙ is)) (nothing_new calls flags closes.closed).1;
-    }
+pub reached_ends : (count : ℕ) (outside : ℕ → Bool) (calls : List FunctionCall) (start flags : List Bool)
+    → AreStarting count outside start → Closes calls start flags → AreExactly count outside calls flags
+reached_ends count outside calls start flags out closes = record {
+  size = closes.size ∙ out.size;
+  sound = subst (λ (n : ℕ). (f : ℕ) → IsFlagged flags f → IsReached n outside calls f) out.size
+      (closes.sound outside
+      (λ f h. let lt = set_there start f h in
+      ReachedFromOutside f lt (sym (out.each f (omega (arith, lt, out.size))) ∙ h)));
+  complete = all_flagged count outside calls flags (closes.size ∙ out.size)
+      (λ f lt is. closes.kept f (out.each f lt ∙ is)) (nothing_new calls flags closes.closed).1;
+}

@@ -20,6 +20,7 @@ use Rattle.c_file.specs.Comments.{said_of}
 use Rattle.c_file.specs.Facts.{AreFacts}
 use Rattle.c_file.specs.Functions.{written_file}
 use Rattle.c_file.specs.Made.{functions_of}
+use Rattle.c_file.specs.Changing.{AreChanging}
 use Rattle.c_file.specs.Source.{source_text}
 use Rattle.c_file.specs.Files.{chart_name, names_in, comments_in, IsMadeFor, header_for, source_for}
 
@@ -61,23 +62,32 @@ module _ {c : Chart} {w : Written} {made : Made} (is : IsMadeFor c w made) where
       (written_file (code_of w.code) (tests_seen w.tests) w.limits w.outputs).functions written facts) is.names
       (subst (λ (fs : List Function). AreFacts (labels_of made.labels) fs written facts) functions_are hold)
 
+  -- and so do those that may change the struct
+  pub may_change : (changing : List Bool) → AreChanging (labels_of made.labels) (functions_of made) changing
+      → AreChanging (names_in c (code_of w.code))
+      (written_file (code_of w.code) (tests_seen w.tests) w.limits w.outputs).functions changing
+  may_change changing are =
+      subst (λ (L : Labels). AreChanging L
+      (written_file (code_of w.code) (tests_seen w.tests) w.limits w.outputs).functions changing) is.names
+      (subst (λ (fs : List Function). AreChanging (labels_of made.labels) fs changing) functions_are are)
+
   -- their source is that for the code
-  pub source_is : (written : List Bool) (facts : SourceFacts) (identity : Identity)
+  pub source_is : (written changing : List Bool) (facts : SourceFacts) (identity : Identity)
       → source_text (labels_of made.labels) (said_of made.said) identity made.shape.bounds made.shape.outputs
-      made.shape.notes (calls_number facts.calls) (functions_of made) written
+      made.shape.notes (calls_number facts.calls) (functions_of made) written changing
       ≡ source_for c (tests_seen w.tests) w.limits w.outputs (code_of w.code) w.origins.items w.tags.items facts written
-      identity
-  source_is written facts identity =
+      changing identity
+  source_is written changing facts identity =
       let k : Code = code_of w.code in
       let n : ℕ = calls_number facts.calls in
       ap (λ (L : Labels). source_text L (said_of made.said) identity made.shape.bounds made.shape.outputs
-      made.shape.notes n (functions_of made) written) is.names
+      made.shape.notes n (functions_of made) written changing) is.names
       ∙ ap (λ (xs : List (List ℕ)). source_text (names_in c k) xs identity made.shape.bounds made.shape.outputs
-      made.shape.notes n (functions_of made) written) is.said
+      made.shape.notes n (functions_of made) written changing) is.said
       ∙ ap (λ (fs : List Function). source_text (names_in c k) (comments_in c w.origins.items w.tags.items) identity
-      made.shape.bounds made.shape.outputs made.shape.notes n fs written) functions_are
+      made.shape.bounds made.shape.outputs made.shape.notes n fs written changing) functions_are
       ∙ ap (λ (S : Shape). source_text (names_in c k) (comments_in c w.origins.items w.tags.items) identity
-      S.bounds S.outputs S.notes n (written_file k (tests_seen w.tests) w.limits w.outputs).functions written) is.shape
+      S.bounds S.outputs S.notes n (written_file k (tests_seen w.tests) w.limits w.outputs).functions written changing) is.shape
 
   -- and so is their header
   pub header_is : (facts : SourceFacts) (identity : Identity)

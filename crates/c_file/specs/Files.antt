@@ -27,6 +27,7 @@ use Rattle.c_header.specs.Header.{calls_number, header_text}
 use Rattle.c_file.specs.declared.file.CFiles.{CFiles}
 use Rattle.c_file.specs.declared.made.Made.{Made}
 use Rattle.c_file.specs.declared.written.Written.{Written}
+use Rattle.c_file.specs.Changing.{AreChanging}
 use Rattle.c_file.specs.Comments.{IsTagOf, comments_for, said_of}
 use Rattle.c_file.specs.Facts.{AreFacts}
 use Rattle.c_file.specs.Functions.{written_file}
@@ -106,30 +107,33 @@ header_for c T limits room k facts identity =
     header_text (names_in c k).chart (shape_of k T limits room) facts identity
 
 -- its source: the functions that are written, each procedure under words for the part of the chart that it is of and for
--- what it is a copy, and the check that the header has the same bounds, the same numbers of outputs, notes and calls,
--- and the sum of the same chart
-abbrev pub source_for : Chart → Tests → Bounds → ℕ → Code → List ℕ → List Tag → SourceFacts → List Bool → Identity
-    → List ℕ
-source_for c T limits room k origins tags facts written identity =
+-- what it is a copy, where some may change the struct, and the check that the header has the same bounds, the same numbers
+-- of outputs, notes and calls, and the sum of the same chart
+abbrev pub source_for : Chart → Tests → Bounds → ℕ → Code → List ℕ → List Tag → SourceFacts → List Bool → List Bool
+    → Identity → List ℕ
+source_for c T limits room k origins tags facts written changing identity =
     source_text (names_in c k) (comments_in c origins tags) identity limits room (shape_of k T limits room).notes
-    (calls_number facts.calls) (written_file k T limits room).functions written
+    (calls_number facts.calls) (written_file k T limits room).functions written changing
 
--- both files are those of what they are made from, in lines, for a list of the functions that are reached and facts that
--- hold
+-- both files are those of what they are made from, in lines, for lists of the functions that are reached and of those that
+-- may change the struct, and facts that hold
 pub record IsPrinted (made : Made) (identity : Identity) (files : CFiles) : Type 0 where
   pub written : List Bool
+  pub changing : List Bool
   pub facts : SourceFacts
   pub hold : AreFacts (labels_of made.labels) (functions_of made) written facts
+  pub may_change : AreChanging (labels_of made.labels) (functions_of made) changing
   pub header_is : IsInLines (header_text made.name.now (shape_seen made.shape) facts identity)
       (string_bytes files.header)
   pub source_is : IsInLines
       (source_text (labels_of made.labels) (said_of made.said) identity made.shape.bounds made.shape.outputs
-      made.shape.notes (calls_number facts.calls) (functions_of made) written) (string_bytes files.source)
+      made.shape.notes (calls_number facts.calls) (functions_of made) written changing) (string_bytes files.source)
 
 -- The two texts are header and source of a chart, of this making: both of one code, made of the chart's smaller code,
 -- with the tests, limits and room that it needs under the bounds that were asked for, and arrays of sizes that C takes.
--- The header says the facts that hold of the functions of its file, and the source has those that are reached. No line
--- of either is too long. That file runs as the rules say under these bounds.
+-- The header says the facts that hold of the functions of its file, and the source has those that are reached, with a
+-- struct that is const but where a function may change it. No line of either is too long. That file runs as the rules say
+-- under these bounds.
 pub record IsC (c : Chart) (identity : Identity) (header source : List ℕ) : Type 0 where
   pub code : Code
   pub tags : List Tag
@@ -138,13 +142,15 @@ pub record IsC (c : Chart) (identity : Identity) (header source : List ℕ) : Ty
   pub limits : Bounds
   pub room : ℕ
   pub written : List Bool
+  pub changing : List Bool
   pub facts : SourceFacts
   pub is_written : IsWritten c identity.bounds code tags origins
   pub limits_are : AreLimits code identity.bounds tests limits room
   pub sizes : HasSizes (shape_of code tests limits room)
   pub hold : AreFacts (names_in c code) (written_file code tests limits room).functions written facts
+  pub may_change : AreChanging (names_in c code) (written_file code tests limits room).functions changing
   pub header_is : IsInLines (header_for c tests limits room code facts identity) header
-  pub source_is : IsInLines (source_for c tests limits room code origins tags facts written identity) source
+  pub source_is : IsInLines (source_for c tests limits room code origins tags facts written changing identity) source
   pub runs : FileRunsAsRules c identity.bounds (shape_of code tests limits room) (written_file code tests limits room)
 
 -- the text is the header of a chart's C, beside some source

@@ -1,4 +1,5 @@
 pub mod Calls
+pub mod Changing
 pub mod Uses
 pub mod Reached
 pub mod Closing

@@ -29,13 +29,21 @@ IsFlagged flags f = slice_index_or flags f false ≡ true
 abbrev pub outside_of : Labels → ℕ → Bool
 outside_of L f = is_outside (function_kind L f)
 
--- the flags of those functions are set that are called from outside
-pub record AreOutside (L : Labels) (count : ℕ) (flags : List Bool) : Type 0 where
+-- the flags of so many functions are set from which others are reached
+pub record AreStarting (count : ℕ) (outside : ℕ → Bool) (flags : List Bool) : Type 0 where
   pub size : length flags ≡ count
-  pub each : (f : ℕ) → f < count → slice_index_or flags f false ≡ outside_of L f
+  pub each : (f : ℕ) → f < count → slice_index_or flags f false ≡ outside f
+
+-- the flags of those functions are set that are called from outside
+abbrev pub AreOutside : Labels → ℕ → List Bool → Type 0
+AreOutside L count flags = AreStarting count (outside_of L) flags
+
+-- the flags say exactly which of so many functions are reached
+pub record AreExactly (count : ℕ) (outside : ℕ → Bool) (calls : List FunctionCall) (flags : List Bool) : Type 0 where
+  pub size : length flags ≡ count
+  pub sound : (f : ℕ) → IsFlagged flags f → IsReached count outside calls f
+  pub complete : (f : ℕ) → IsReached count outside calls f → IsFlagged flags f
 
 -- the flags say exactly which functions of a file are reached
-pub record AreReached (L : Labels) (functions : List Function) (flags : List Bool) : Type 0 where
-  pub size : length flags ≡ length functions
-  pub sound : (f : ℕ) → IsFlagged flags f → IsReached (length functions) (outside_of L) (calls_from 0 functions) f
-  pub complete : (f : ℕ) → IsReached (length functions) (outside_of L) (calls_from 0 functions) f → IsFlagged flags f
+abbrev pub AreReached : Labels → List Function → List Bool → Type 0
+AreReached L functions flags = AreExactly (length functions) (outside_of L) (calls_from 0 functions) flags

@@ -9,6 +9,7 @@ use Rattle.c_text.specs.Functions.{prototype_text, function_text}
 use Rattle.c_header.specs.Header.{named_text}
 use Rattle.c_header.specs.Identity.{identity_text, sum_numbers}
 use Rattle.c_header.specs.declared.identity.Identity.{Identity}
+use Rattle.c_file.specs.Changing.{only_reads}
 use Rattle.c_file.specs.Reached.{outside_of}
 use Rattle.c_file.specs.Uses.{is_wide}
 
@@ -82,38 +83,44 @@ wide_text chart true =
     ++ named_text (codes "__extension__ typedef unsigned __int128 ") chart (codes "uint128;\n\n")
 wide_text chart false = []
 
--- the declaration of a function that is written; the header has those that are called from outside
-unfoldable pub declared_text : Labels → List Bool → ℕ → List ℕ
-declared_text L written f = if is_written written f && not (outside_of L f) then prototype_text L f else []
+-- the declaration of a function that is written; the header has those that are called from outside. changing has a flag
+-- for each function, whether it may change the struct
+unfoldable pub declared_text : Labels → List Bool → List Bool → ℕ → List ℕ
+declared_text L written changing f =
+    if is_written written f && not (outside_of L f) then prototype_text L f (only_reads changing f) else []
 
 -- those of the functions from number f on
-abbrev pub declarations_text : Labels → List Bool → ℕ → List Function → List ℕ
-declarations_text L written f [] = []
-declarations_text L written f (g ∷ gs) = declared_text L written f ++ declarations_text L written (f + 1) gs
+abbrev pub declarations_text : Labels → List Bool → List Bool → ℕ → List Function → List ℕ
+declarations_text L written changing f [] = []
+declarations_text L written changing f (g ∷ gs) =
+    declared_text L written changing f ++ declarations_text L written changing (f + 1) gs
 
 -- a function under its comment
-abbrev pub commented_text : Labels → List (List ℕ) → ℕ → Function → List ℕ
-commented_text L said f g = comment_text said f ++ function_text L f g.result g.parameters (lines_of g.body)
+abbrev pub commented_text : Labels → List (List ℕ) → List Bool → ℕ → Function → List ℕ
+commented_text L said changing f g =
+    comment_text said f ++ function_text L f (only_reads changing f) g.result g.parameters (lines_of g.body)
 
 -- the same, where the function is written
-unfoldable pub written_text : Labels → List (List ℕ) → List Bool → ℕ → Function → List ℕ
-written_text L said written f g = if is_written written f then commented_text L said f g else []
+unfoldable pub written_text : Labels → List (List ℕ) → List Bool → List Bool → ℕ → Function → List ℕ
+written_text L said written changing f g = if is_written written f then commented_text L said changing f g else []
 
 -- those from number f on
-abbrev pub functions_text : Labels → List (List ℕ) → List Bool → ℕ → List Function → List ℕ
-functions_text L said written f [] = []
-functions_text L said written f (g ∷ gs) = written_text L said written f g ++ functions_text L said written (f + 1) gs
+abbrev pub functions_text : Labels → List (List ℕ) → List Bool → List Bool → ℕ → List Function → List ℕ
+functions_text L said written changing f [] = []
+functions_text L said written changing f (g ∷ gs) =
+    written_text L said written changing f g ++ functions_text L said written changing (f + 1) gs
 
 -- what stands before the functions
-abbrev pub front_text : Labels → Identity → Bounds → ℕ → ℕ → ℕ → List Function → List Bool → List ℕ
-front_text L identity bounds outputs notes calls functions written =
+abbrev pub front_text : Labels → Identity → Bounds → ℕ → ℕ → ℕ → List Function → List Bool → List Bool → List ℕ
+front_text L identity bounds outputs notes calls functions written changing =
     opening_text L.chart identity
     ++ (fits_text L.chart identity bounds outputs notes calls
-    ++ (wide_text L.chart (any_wide written 0 functions) ++ declarations_text L written 0 functions))
+    ++ (wide_text L.chart (any_wide written 0 functions) ++ declarations_text L written changing 0 functions))
 
--- the source of this making, of those of the functions that are written, for these bounds, a struct with room for so
--- many outputs and notes, and a header that has this number of calls
+-- the source of this making, of those of the functions that are written, of which those may change the struct, for these
+-- bounds, a struct with room for so many outputs and notes, and a header that has this number of calls
 unfoldable pub source_text : Labels → List (List ℕ) → Identity → Bounds → ℕ → ℕ → ℕ → List Function → List Bool
-    → List ℕ
-source_text L said identity bounds outputs notes calls functions written =
-    front_text L identity bounds outputs notes calls functions written ++ functions_text L said written 0 functions
+    → List Bool → List ℕ
+source_text L said identity bounds outputs notes calls functions written changing =
+    front_text L identity bounds outputs notes calls functions written changing
+    ++ functions_text L said written changing 0 functions

@@ -118,8 +118,8 @@ fn lined_source(
     requires uses { AreUses (labels_of made.now.labels) (functions_of made.now) uses.now }
     ensures { IfOk result (λ text. IsInLines (source_text (labels_of made.now.labels)
         (said_of made.now.said) identity made.now.shape.bounds made.now.shape.outputs
-        made.now.shape.notes calls (functions_of made.now) uses.now.reached.items)
-        (string_bytes text)) }
+        made.now.shape.notes calls (functions_of made.now) uses.now.reached.items
+        uses.now.changing.items) (string_bytes text)) }
 {
     let text = printed_source(alloc, made, uses, calls, identity)?;
     Ok(in_lines(alloc, &text)?)

@@ -6,6 +6,9 @@ ghost use Rattle.actions.specs.Names.{Names};
 ghost use Rattle.actions.specs.declared.names.EventDecl.{EventDecl};
 ghost use Rattle.chart_lexer.specs.Words.{is_name};
 ghost use Rattle.chart_parts.specs.Plain.{IsPlain};
+ghost use Rattle.c_file.specs.declared.calls.FunctionCall.{FunctionCall};
+ghost use Rattle.c_file.specs.Calls.{calls_from};
+ghost use Rattle.c_file.specs.Changing.{AreChanging, only_reads};
 ghost use Rattle.c_file.specs.Comments.{copy_words};
 ghost use Rattle.flow_base.specs.declared.bounds.Bounds.{Bounds};
 ghost use Rattle.checked_chart.specs.Chart.{Chart};
@@ -17,12 +20,15 @@ ghost use Rattle.c_file.specs.Functions.{written_file};
 ghost use Rattle.c_functions.specs.Files.{shape_of};
 ghost use Rattle.c_functions.specs.Plans.{Tests};
 ghost use Rattle.c_functions.specs.Starts.{HasShape};
-ghost use Rattle.c_subset.specs.Meaning.{Store};
-ghost use Rattle.c_subset.specs.Trees.{Function};
+ghost use Rattle.c_subset.specs.declared.trees.Width.{Width};
+ghost use Rattle.c_subset.specs.Meaning.{CValue, Store};
+ghost use Rattle.c_subset.specs.Running.{Returns, call};
+ghost use Rattle.c_subset.specs.Trees.{File, Function};
 ghost use Rattle.c_header.specs.declared.facts.SourceFacts.{SourceFacts};
 ghost use Rattle.c_header.specs.declared.identity.Identity.{Identity};
 ghost use Rattle.c_header.specs.Header.{calls_number};
 ghost use Rattle.c_text.specs.Functions.{head_text, prototype_text};
+ghost use Rattle.c_text.specs.Labels.{Labels};
 
 /// The smaller code of a chart is one, and so are the numbers that its procedures had: the header
 /// and the source of a chart are for the same smaller code.
@@ -42,27 +48,43 @@ pub fn the_struct_of_the_header_is_that_of_the_source()
         → HasShape (shape_of k T limits room) s → HasShape (shape_of k' T' limits' room') s }
 {}
 
-/// The declaration of each function of the file that is written for a chart is the head of that
-/// function, and a semicolon.
+/// The declaration of each function of the file that is written for a chart, of which it is told
+/// whether it only reads the struct, is the head of that function, and a semicolon.
 pub fn declarations_of_the_file_are_heads()
     ensures { (c : Chart) (b : Bounds) (k : Code) (tags : List Tag) (origins : List ℕ) (T : Tests)
-        (limits : Bounds) (room f : ℕ) (g : Function) → IsWritten c b k tags origins
+        (limits : Bounds) (room f : ℕ) (reads : Bool) (g : Function) → IsWritten c b k tags origins
         → slice_get (written_file k T limits room).functions f ≡ Some g
-        → prototype_text (names_in c k) f
-        ≡ head_text (names_in c k) f g.result g.parameters ++ (codes ";" ++ 10 ∷ []) }
+        → prototype_text (names_in c k) f reads
+        ≡ head_text (names_in c k) f reads g.result g.parameters ++ (codes ";" ++ 10 ∷ []) }
+{}
+
+/// Where a function of a file only reads the struct, so do those that it calls, so that a struct
+/// that is const goes to no function that may change it; and a call of it leaves the struct as it
+/// was, with so much fuel, for these arguments and from that struct.
+pub fn functions_that_only_read_leave_the_struct()
+    ensures calls { (L : Labels) (functions : List Function) (changing : List Bool) (i : ℕ)
+        (call : FunctionCall) → AreChanging L functions changing
+        → slice_get (calls_from 0 functions) i ≡ Some call → only_reads changing call.caller ≡ true
+        → only_reads changing call.callee ≡ true }
+    ensures left { (L : Labels) (file : File) (changing : List Bool) (int : Width) (k f : ℕ)
+        (xs : List CValue) (s after : Store) (x : CValue) → AreChanging L file.functions changing
+        → only_reads changing f ≡ true → call file int k f xs s ≡ Returns after x → after ≡ s }
 {}
 
 /// The source for code of a chart is one, but for the number of calls with which it compares that
-/// of the header: which functions are written is told by the code.
+/// of the header: which functions are written, and which of them may change the struct, is told by
+/// the code.
 pub fn the_source_for_code_is_one()
     ensures { (c : Chart) (T : Tests) (limits : Bounds) (room : ℕ) (k : Code) (origins : List ℕ)
         (tags : List Tag) (identity : Identity) (facts facts' : SourceFacts)
-        (written written' : List Bool)
+        (written written' changing changing' : List Bool)
         → AreFacts (names_in c k) (written_file k T limits room).functions written facts
         → AreFacts (names_in c k) (written_file k T limits room).functions written' facts'
+        → AreChanging (names_in c k) (written_file k T limits room).functions changing
+        → AreChanging (names_in c k) (written_file k T limits room).functions changing'
         → calls_number facts.calls ≡ calls_number facts'.calls
-        → source_for c T limits room k origins tags facts written identity
-        ≡ source_for c T limits room k origins tags facts' written' identity }
+        → source_for c T limits room k origins tags facts written changing identity
+        ≡ source_for c T limits room k origins tags facts' written' changing' identity }
 {}
 
 /// The words for what a copy of a procedure is for are one line in which no comment of C ends,

@@ -3,6 +3,7 @@ ghost use Rattle.std.specs.Prelude.{◌≡◌, ◌<◌, ◌++◌, ◌&&◌, IfOk
 ghost use Rattle.std.specs.Prelude.{slice_get, slice_index_or, string_bytes};
 ghost use Rattle.c_subset.specs.Trees as c;
 ghost use Rattle.c_text.specs.Labels.{labels_of};
+ghost use Rattle.c_file.specs.Changing.{only_reads};
 ghost use Rattle.c_file.specs.Comments.{said_of};
 ghost use Rattle.c_file.specs.Made.{AreUses, IsMade, functions_of};
 ghost use Rattle.c_file.specs.Source as spec;
@@ -25,6 +26,16 @@ fn is_written(made: &Made<'_>, uses: &Uses, number: u32) -> bool
     ensures { result ≡ spec.is_written uses.now.reached.items number }
 {
     uses.reached[number as usize]
+}
+
+/// Whether a function only reads the struct.
+fn only_reads(made: &Made<'_>, uses: &Uses, number: u32) -> bool
+    requires is { IsMade made.now }
+    requires uses { AreUses (labels_of made.now.labels) (functions_of made.now) uses.now }
+    requires within { number < length (functions_of made.now) }
+    ensures { result ≡ only_reads uses.now.changing.items number }
+{
+    !uses.changing[number as usize]
 }
 
 /// Whether a function is written and names a type of 128 bits.
@@ -181,10 +192,11 @@ fn print_declaration(
     requires uses { AreUses (labels_of made.now.labels) (functions_of made.now) uses.now }
     requires within { number < length (functions_of made.now) }
     ensures { OnOk result (string_bytes out.new ≡ string_bytes out.old
-        ++ spec.declared_text (labels_of made.now.labels) uses.now.reached.items number) }
+        ++ spec.declared_text (labels_of made.now.labels) uses.now.reached.items
+        uses.now.changing.items number) }
 {
     if is_written(made, uses, number) && !is_outside(function_kind(&made.labels, number)) {
-        print_prototype(out, &made.labels, number)
+        print_prototype(out, &made.labels, number, only_reads(made, uses, number))
     } else {
         Ok(())
     }
@@ -195,8 +207,8 @@ fn print_declarations(out: &mut String, made: &Made<'_>, uses: &Uses) -> Result<
     requires is { IsMade made.now }
     requires uses { AreUses (labels_of made.now.labels) (functions_of made.now) uses.now }
     ensures { OnOk result (string_bytes out.new ≡ string_bytes out.old
-        ++ spec.declarations_text (labels_of made.now.labels) uses.now.reached.items 0
-        (functions_of made.now)) }
+        ++ spec.declarations_text (labels_of made.now.labels) uses.now.reached.items
+        uses.now.changing.items 0 (functions_of made.now)) }
 {
     for number in 0..made.count() {
         print_declaration(out, made, uses, number)?;
@@ -209,19 +221,22 @@ fn print_commented(
     alloc: Global,
     out: &mut String,
     made: &Made<'_>,
+    uses: &Uses,
     number: u32,
 ) -> Result<(), Memory>
     requires is { IsMade made.now }
+    requires uses { AreUses (labels_of made.now.labels) (functions_of made.now) uses.now }
     requires within { number < length (functions_of made.now) }
     ensures { OnOk result ((g : c.Function) → slice_get (functions_of made.now) number ≡ Some g
         → string_bytes out.new ≡ string_bytes out.old ++ spec.commented_text
-        (labels_of made.now.labels) (said_of made.now.said) number g) }
+        (labels_of made.now.labels) (said_of made.now.said) uses.now.changing.items number g) }
 {
     let function = made.function(alloc, number)?;
     let Ok(()) = print_comment(out, &made.said, number) else {
         return Err(Memory);
     };
-    match print_function(alloc, out, &made.labels, number, &function) {
+    let reads = only_reads(made, uses, number);
+    match print_function(alloc, out, &made.labels, number, reads, &function) {
         Ok(()) => Ok(()),
         Err(_) => Err(Memory),
     }
@@ -241,10 +256,11 @@ fn print_written(
     requires within { number < length (functions_of made.now) }
     ensures { OnOk result ((g : c.Function) → slice_get (functions_of made.now) number ≡ Some g
         → string_bytes out.new ≡ string_bytes out.old ++ spec.written_text
-        (labels_of made.now.labels) (said_of made.now.said) uses.now.reached.items number g) }
+        (labels_of made.now.labels) (said_of made.now.said) uses.now.reached.items
+        uses.now.changing.items number g) }
 {
     if is_written(made, uses, number) {
-        print_commented(alloc, out, made, number)
+        print_commented(alloc, out, made, uses, number)
     } else {
         Ok(())
     }
@@ -261,7 +277,7 @@ fn print_functions(
     requires uses { AreUses (labels_of made.now.labels) (functions_of made.now) uses.now }
     ensures { OnOk result (string_bytes out.new ≡ string_bytes out.old
         ++ spec.functions_text (labels_of made.now.labels) (said_of made.now.said)
-        uses.now.reached.items 0 (functions_of made.now)) }
+        uses.now.reached.items uses.now.changing.items 0 (functions_of made.now)) }
 {
     for number in 0..made.count() {
         print_written(alloc, out, made, uses, number)?;
@@ -283,7 +299,7 @@ fn print_front(
     ensures { OnOk result (string_bytes out.new ≡ string_bytes out.old
         ++ spec.front_text (labels_of made.now.labels) identity made.now.shape.bounds
         made.now.shape.outputs made.now.shape.notes calls (functions_of made.now)
-        uses.now.reached.items) }
+        uses.now.reached.items uses.now.changing.items) }
 {
     print_opening(alloc, out, made.name, identity)?;
     print_fits(alloc, out, made, calls, identity)?;
@@ -305,7 +321,7 @@ fn print_source(
     ensures { OnOk result (string_bytes out.new ≡ string_bytes out.old
         ++ spec.source_text (labels_of made.now.labels) (said_of made.now.said) identity
         made.now.shape.bounds made.now.shape.outputs made.now.shape.notes calls
-        (functions_of made.now) uses.now.reached.items) }
+        (functions_of made.now) uses.now.reached.items uses.now.changing.items) }
 {
     let Ok(()) = print_front(alloc, out, made, uses, calls, identity) else {
         return Err(Memory);
@@ -327,7 +343,8 @@ pub(crate) fn printed_source(
     requires uses { AreUses (labels_of made.now.labels) (functions_of made.now) uses.now }
     ensures { IfOk result (λ text. string_bytes text ≡ spec.source_text (labels_of made.now.labels)
         (said_of made.now.said) identity made.now.shape.bounds made.now.shape.outputs
-        made.now.shape.notes calls (functions_of made.now) uses.now.reached.items) }
+        made.now.shape.notes calls (functions_of made.now) uses.now.reached.items
+        uses.now.changing.items) }
 {
     let mut text = String::new(alloc);
     print_source(alloc, &mut text, made, uses, calls, identity)?;

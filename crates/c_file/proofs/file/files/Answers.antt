@@ -7,7 +7,7 @@ use Rattle.c_functions.specs.Files.{shape_of}
 use Rattle.c_functions.specs.Starts.{file_of}
 use Rattle.c_expression_writer.specs.FileShapes.{tests_seen}
 use Rattle.c_file.specs.Files.{IsMadeFor}
-use Rattle.c_file.proofs.SourceLemmas.{facts_hold, header_is, same_lines, source_is}
+use Rattle.c_file.proofs.SourceLemmas.{facts_hold, may_change, header_is, same_lines, source_is}
 use Rattle.c_file.proofs.file.files.Goals as goal
 
 pub returns : goal.returns
@@ -25,13 +25,16 @@ returns c =
       limits = w.limits;
       room = w.outputs;
       written = printed.written;
+      changing = printed.changing;
       facts = printed.facts;
       is_written = is.is_written;
       limits_are = is.limits_are;
       sizes = is.sizes;
       hold = facts_hold made printed.written printed.facts printed.hold;
+      may_change = may_change made printed.changing printed.may_change;
       header_is = same_lines _ _ _ (header_is made printed.facts identity) printed.header_is;
-      source_is = same_lines _ _ _ (source_is made printed.written printed.facts identity) printed.source_is;
+      source_is =
+          same_lines _ _ _ (source_is made printed.written printed.changing printed.facts identity) printed.source_is;
       runs = record {
         runs = λ int s given events moments small has values all rules.
             c.loops_run_as_calls.ensures.runs (length (code_of w.code).procedures.procs)

@@ -11,12 +11,12 @@ pub loop-number-preserved : goal.loop-number-preserved
 loop-number-preserved c =
     more_printed _ _ _ _ _ _
     (at_drop_more (declarations_text (labels_of c.args.made.now.labels) c.args.uses.now.reached.items
-    c.loop-number.number) (functions_of c.args.made.now) c.loop-number.number no_function
+    c.args.uses.now.changing.items c.loop-number.number) (functions_of c.args.made.now) c.loop-number.number no_function
     (omega (arith, c.count-number-end.ensures)))
     c.in_ok-print_declaration.ensures c.loop-number.invariant
 
 pub returns : goal.returns
 returns c =
     all_printed (declarations_text (labels_of c.args.made.now.labels) c.args.uses.now.reached.items
-    c.loop-number.number) (functions_of c.args.made.now) c.loop-number.number _ _
+    c.args.uses.now.changing.items c.loop-number.number) (functions_of c.args.made.now) c.loop-number.number _ _
     (omega (arith, c.count-number-end.ensures)) refl c.loop-number.invariant

@@ -9,6 +9,6 @@ use Rattle.c_file.proofs.printing.print_declarations.Given as goal
 abbrev pub invariant-loop-number : goal.invariant-loop-number
 invariant-loop-number l =
     string_bytes l.out
-    ++ declarations_text (labels_of l.made.labels) l.uses.reached.items l.number (drop l.number (functions_of l.made))
+    ++ declarations_text (labels_of l.made.labels) l.uses.reached.items l.uses.changing.items l.number (drop l.number (functions_of l.made))
     ≡ string_bytes l.fn.out
-    ++ declarations_text (labels_of l.made.labels) l.uses.reached.items 0 (functions_of l.made)
+    ++ declarations_text (labels_of l.made.labels) l.uses.reached.items l.uses.changing.items 0 (functions_of l.made)

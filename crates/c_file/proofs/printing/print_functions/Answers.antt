@@ -13,7 +13,7 @@ pub loop-number-preserved : goal.loop-number-preserved
 loop-number-preserved c =
     more_printed _ _ _ _ _ _
     (at_drop_more (functions_text (labels_of c.args.made.now.labels) (said_of c.args.made.now.said)
-    c.args.uses.now.reached.items c.loop-number.number) (functions_of c.args.made.now) c.loop-number.number no_function
+    c.args.uses.now.reached.items c.args.uses.now.changing.items c.loop-number.number) (functions_of c.args.made.now) c.loop-number.number no_function
     (omega (arith, c.count-number-end.ensures)))
     (c.in_ok-print_written.ensures (get_or (functions_of c.args.made.now) c.loop-number.number no_function)
     (slice_get-get_or (functions_of c.args.made.now) c.loop-number.number no_function
@@ -23,5 +23,5 @@ loop-number-preserved c =
 pub returns : goal.returns
 returns c =
     all_printed (functions_text (labels_of c.args.made.now.labels) (said_of c.args.made.now.said)
-    c.args.uses.now.reached.items c.loop-number.number) (functions_of c.args.made.now) c.loop-number.number _ _
+    c.args.uses.now.reached.items c.args.uses.now.changing.items c.loop-number.number) (functions_of c.args.made.now) c.loop-number.number _ _
     (omega (arith, c.count-number-end.ensures)) refl c.loop-number.invariant

@@ -10,7 +10,7 @@ use Rattle.c_file.proofs.printing.print_functions.Given as goal
 abbrev pub invariant-loop-number : goal.invariant-loop-number
 invariant-loop-number l =
     string_bytes l.out
-    ++ functions_text (labels_of l.made.labels) (said_of l.made.said) l.uses.reached.items l.number
+    ++ functions_text (labels_of l.made.labels) (said_of l.made.said) l.uses.reached.items l.uses.changing.items l.number
     (drop l.number (functions_of l.made))
     ≡ string_bytes l.fn.out
-    ++ functions_text (labels_of l.made.labels) (said_of l.made.said) l.uses.reached.items 0 (functions_of l.made)
+    ++ functions_text (labels_of l.made.labels) (said_of l.made.said) l.uses.reached.items l.uses.changing.items 0 (functions_of l.made)

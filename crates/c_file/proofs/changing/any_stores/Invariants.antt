@@ -1,0 +1,10 @@
+use Rattle.std.proofs.Common.{◌≡◌, drop}
+use Rattle.std.specs.List.{list_any}
+use Rattle.c_subset.specs.Lines.{lines_in}
+use Rattle.c_readers.specs.Readers.{line_stores}
+use Rattle.c_file.proofs.changing.any_stores.Given as goal
+
+-- the lines to come give what all give
+abbrev pub invariant-loop-line : goal.invariant-loop-line
+invariant-loop-line l =
+    list_any line_stores (lines_in (drop l.line-index l.lines)) ≡ list_any line_stores (lines_in l.lines)

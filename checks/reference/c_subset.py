@@ -579,8 +579,10 @@ class Reader:
             if with_m or arguments:
                 self.want(',')
             arguments.append(self.expression())
-        self.want(';')
         called = self.prototypes.get(function)
+        if called and with_m and self.only_reads and 'const' not in called.head:
+            self.refuse('this function only reads m, and `%s` may change it' % function)
+        self.want(';')
         if called and called.with_m != with_m:
             self.refuse('`%s` %s' % (function, 'has m as its first argument' if called.with_m else 'has no parameter m'))
         return Call(line, local, function, with_m, arguments)

@@ -46,11 +46,12 @@ pub data Stmt : Type 0 where
 
 -- ---- transitions and actions
 
--- the event of a case: any, this one, or `after(N, E)` and so on, with the place of the word
+-- the event of a case: any, this one, or `after(N, E)` and so on or `every(N, E)`, with the place of the word
 pub data Trigger : Type 0 where
   Always : Trigger
   On : NameText → Trigger
   AtTime : TimeWord → Expr → NameText → Span → Trigger
+  Every : Expr → NameText → Span → Trigger
 
 -- a guard, with the place of its bracket
 pub record Guard : Type 0 where

@@ -33,7 +33,7 @@ use Rattle.statechart_tree.specs.declared.state.SourceState.{end_of-SourceState,
 use Rattle.statechart_tree.specs.declared.statechart.Statechart as statecharts
 use Rattle.statechart_tree.specs.Trees.{Expr, Lit, Flag, Name, Active, Count, Timed, Call, Unary, Binary, Exprs, NoExpr}
 use Rattle.statechart_tree.specs.Trees.{MoreExprs, Stmt, Assign, Update, Step, Send, Emit, Raise, Invoke, Trigger}
-use Rattle.statechart_tree.specs.Trees.{Always, On, AtTime, Guard, Case, Trans, Junction, ActionWord, Entry, During, Exit}
+use Rattle.statechart_tree.specs.Trees.{Always, On, AtTime, Every, Guard, Case, Trans, Junction, ActionWord, Entry, During, Exit}
 use Rattle.statechart_tree.specs.Trees.{OnCases, Action, Sort, Plain, OfEnumeration, First, Missing, Given, Named, Var}
 use Rattle.statechart_tree.specs.Trees.{Enumeration, Constant, Body, Block, Value, Function, Parts, State, StateOf}
 use Rattle.statechart_tree.specs.Trees.{States, NoState, MoreStates, Statechart}
@@ -80,6 +80,7 @@ abbrev pub trigger_of : triggers.Trigger → Trigger
 trigger_of trigger_words.Always = Always
 trigger_of (trigger_words.On event) = On event
 trigger_of (trigger_words.Timed word n event at) = AtTime word (expr_of n) event at
+trigger_of (trigger_words.Every n event at) = Every (expr_of n) event at
 
 -- a guard of the code
 abbrev pub guard_of : SourceGuard → Guard

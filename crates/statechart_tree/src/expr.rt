@@ -11,8 +11,6 @@ pub enum TimeWord {
     Before,
     /// `at(N, E)`: exactly that often.
     At,
-    /// `every(N, E)`: each time that it is once more so often. It stands in no expression of a text.
-    Every,
 }
 
 /// An expression. Parentheses leave no trace. Its place is that of its first token; the place of a

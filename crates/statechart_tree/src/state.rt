@@ -14,6 +14,8 @@ pub enum Trigger {
     On(NameText),
     /// `after(N, E)` and so on, with the place of the word. The name is that of an event or of a unit.
     Timed(TimeWord, SourceExpr, NameText, Span),
+    /// `every(N, E)`: each time that it came N times more, with the place of the word.
+    Every(SourceExpr, NameText, Span),
 }
 
 /// A guard, with the place of its bracket.

@@ -1,0 +1,59 @@
+-- Expressions without the new words.
+use Rattle.std.specs.Prelude.{ℕ, List, [], ◌∷◌}
+use Rattle.token_grammar.specs.declared.token.Span.{Span}
+use Rattle.chart_tree.specs.declared.name.NameText.{NameText}
+use Rattle.chart_tree.specs.declared.expr.BinWord.TheVariants as words
+use Rattle.chart_tree.specs.Trees as core
+use Rattle.chart_tree.specs.Trees.{Path}
+use Rattle.statechart_tree.specs.declared.expr.TimeWord.{TimeWord}
+use Rattle.statechart_tree.specs.declared.expr.TimeWord.TheVariants as times
+use Rattle.statechart_tree.specs.Trees.{Expr, Lit, Flag, Name, Active, Count, Timed, Call, Unary, Binary, Exprs, NoExpr}
+use Rattle.statechart_tree.specs.Trees.{MoreExprs}
+use Rattle.statechart_meaning.specs.Names.{Home, named, counter_name}
+use Rattle.statechart_meaning.specs.Values.{value_expr}
+use Rattle.statechart_meaning.specs.Times.{timer_of, counted_event, count_expr}
+use Rattle.statechart_meaning.specs.Scope.{Scope, Meaning, IsArgument, IsDatum, IsValue, IsUnknown, meaning_of, first_name}
+use Rattle.statechart_meaning.specs.Scope.{home_of}
+
+-- a name that is read: an argument, a datum, or a value, at its place; an unknown name stays as it is
+abbrev pub meaning_expr : Meaning → NameText → core.Expr
+meaning_expr (IsArgument e) name = e
+meaning_expr (IsDatum text) name = core.Name (named text name.at)
+meaning_expr (IsValue v) name = value_expr v name.at
+meaning_expr IsUnknown name = core.Name name
+
+abbrev pub name_expr : Scope → Path → core.Expr
+name_expr s path = meaning_expr (meaning_of s path) (first_name path)
+
+-- the counter of an event for the state in which it is used, at the place of the word
+abbrev pub counter : Scope → NameText → Span → core.Expr
+counter s event at =
+    core.Name (named (counter_name (home_of s.frames) (counted_event s.declared.events event).text) at)
+
+-- the test of a word, where the count is n
+abbrev pub test : Scope → TimeWord → core.Expr → NameText → Span → core.Expr
+test s times.After n event at = core.Binary words.Ge (counter s event at) n at
+test s times.Before n event at = core.Binary words.Lt (counter s event at) n at
+test s times.At n event at = core.Binary words.Eq (counter s event at) n at
+
+-- the count of a word, in steps of the clock where the name is a unit
+abbrev pub count : Scope → core.Expr → NameText → core.Expr
+count s n event = count_expr (timer_of s.declared.events event.text) n
+
+abbrev mutual
+  -- an expression
+  pub expand_expr : Scope → Expr → core.Expr
+  expand_expr s (Lit lit at) = core.Lit lit at
+  expand_expr s (Flag value at) = core.Flag value at
+  expand_expr s (Name path) = name_expr s path
+  expand_expr s (Active path at) = core.Active path at
+  expand_expr s (Count event at) = counter s event at
+  expand_expr s (Timed word n event at) = test s word (count s (expand_expr s n) event) event at
+  expand_expr s (Call name arguments) = s.calls.value name (expand_exprs s arguments)
+  expand_expr s (Unary word e at) = core.Unary word (expand_expr s e) at
+  expand_expr s (Binary word l r at) = core.Binary word (expand_expr s l) (expand_expr s r) at
+
+  -- expressions in order
+  pub expand_exprs : Scope → Exprs → List core.Expr
+  expand_exprs s NoExpr = []
+  expand_exprs s (MoreExprs e others) = expand_expr s e ∷ expand_exprs s others

@@ -1,0 +1,16 @@
+pub mod Names
+pub mod Numbers
+pub mod Values
+pub mod Times
+pub mod Scope
+pub mod Expressions
+pub mod Counting
+pub mod Statements
+pub mod Transitions
+pub mod Functions
+pub mod Counters
+pub mod Declared
+pub mod States
+pub mod Expand
+pub mod Plain
+pub mod Parts

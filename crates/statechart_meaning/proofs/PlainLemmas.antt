@@ -9,7 +9,7 @@ use Rattle.chart_tree.specs.declared.chart.EventText.{EventText}
 use Rattle.chart_tree.specs.Trees as core
 use Rattle.statechart_tree.specs.declared.declarations.SourceEvent.{SourceEvent}
 use Rattle.statechart_tree.specs.Trees.{Parts, State, States, Trans, Action, Case}
-use Rattle.statechart_meaning.specs.Names.{Home, datum_name}
+use Rattle.statechart_meaning.specs.Names.{Home, datum_name, counter_name, every_name}
 use Rattle.statechart_meaning.specs.Scope.{Declared, Frame, Scope, datum_in, datum_named, frame_of, home_of, state_count}
 use Rattle.statechart_meaning.specs.Scope.{or_value, or_text, meaning_of, below_path}
 use Rattle.statechart_meaning.specs.Expressions.{expand_expr, name_expr, meaning_expr}
@@ -234,9 +234,9 @@ module _ (es : List EventText) where
   entry_back fs h vars p inits =
       ap₂ (λ x y. x ++ y)
       (none_of (none_of
-      (ap (λ l. map reset (map (λ (e : NameText). record { home = home_of fs; event = e }) l))
+      (ap (λ l. map reset (map (λ (e : NameText). record { name = counter_name (home_of fs) e.text; event = e }) l))
       (uncounted_parts (map plain_event es) vars p))
-      (ap (λ l. map every_reset (map (λ (r : Recurring). record { home = home_of fs; counts = r }) l))
+      (ap (λ l. map every_reset (map (λ (r : Recurring). record { name = every_name (home_of fs) r.event.text r.number; counts = r }) l))
       (unrepeated_parts (scope es fs) vars p))) inits)
       (ap (expand_block (scope es fs)) (append-nil (map plain_stmt p.entry)) ∙ block_back es fs h p.entry)
 
@@ -302,7 +302,7 @@ module _ (es : List EventText) (vars : List core.Var) (p : core.Parts) (ss : cor
       none_here : (fs : List Frame) (vars : List core.Var) (q : core.Parts)
           → counters_in (map plain_event es) (record { frames = fs; parts = plain_parts vars q }) ≡ []
       none_here fs vars q =
-          ap (map (λ (e : NameText). record { home = home_of fs; event = e }))
+          ap (map (λ (e : NameText). record { name = counter_name (home_of fs) e.text; event = e }))
           (uncounted_parts (map plain_event es) vars q)
 
   none_repeated : flat_map (every_in (declared es) no_calls) (placed root) ≡ []
@@ -312,7 +312,7 @@ module _ (es : List EventText) (vars : List core.Var) (p : core.Parts) (ss : cor
       none_here : (fs : List Frame) (vars : List core.Var) (q : core.Parts)
           → every_in (declared es) no_calls (record { frames = fs; parts = plain_parts vars q }) ≡ []
       none_here fs vars q =
-          ap (map (λ (r : Recurring). record { home = home_of fs; counts = r }))
+          ap (map (λ (r : Recurring). record { name = every_name (home_of fs) r.event.text r.number; counts = r }))
           (unrepeated_parts (scope es fs) vars q)
 
   no_ons : flat_map (λ (x : Placed). ons_in x.parts.actions) (placed root) ≡ []
@@ -330,7 +330,7 @@ module _ (es : List EventText) (vars : List core.Var) (p : core.Parts) (ss : cor
   abbrev made : List Counter → List EveryCounter → List OnAction → core.Chart
   made ks ms os = record {
     events = map expand_event (map plain_event es);
-    vars = flat_map (vars_in (declared es)) (placed root) ++ map counter_var ks ++ map every_var ms;
+    vars = flat_map (vars_in (declared es)) (placed root) ++ map every_var ms ++ map counter_var ks;
     root =
         expand_state true (declared es) no_calls [] root_home
         (map (counting ks) (events_of ks) ++ map (every_counting ms) (every_events ms))

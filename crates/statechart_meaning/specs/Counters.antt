@@ -9,28 +9,28 @@ use Rattle.chart_tree.specs.Trees.{ToJunction}
 use Rattle.statechart_meaning.specs.Names.{named, next_name, end_name}
 use Rattle.statechart_meaning.specs.Numbers.{number}
 use Rattle.statechart_meaning.specs.Counting.{without, OnAction}
-use Rattle.statechart_meaning.specs.Declared.{Counter, EveryCounter, counter_text, every_text}
+use Rattle.statechart_meaning.specs.Declared.{Counter, EveryCounter}
 
 -- a counter becomes 0, at the place
 abbrev pub to_zero : List ℕ → Span → core.Stmt
 to_zero text at = core.Assign (named text at) (core.Lit (number 0) at)
 
 abbrev pub reset : Counter → core.Stmt
-reset k = to_zero (counter_text k) k.event.at
+reset k = to_zero k.name k.event.at
 
 abbrev pub every_reset : EveryCounter → core.Stmt
-every_reset k = to_zero (every_text k) k.counts.event.at
+every_reset k = to_zero k.name k.counts.event.at
 
 -- a counter becomes one more, at the place
 abbrev pub count_up : Span → Counter → core.Stmt
 count_up at k =
-    let name = named (counter_text k) at in
+    let name = named k.name at in
     core.Assign name (core.Binary words.Add (core.Name name) (core.Lit (number 1) at) at)
 
 -- that of `every(n, E)` goes from 1 to n and again: m = m - m / n * n + 1
 abbrev pub count_around : Span → EveryCounter → core.Stmt
 count_around at k =
-    let name = named (every_text k) at in
+    let name = named k.name at in
     let m = core.Name name in
     let n = core.Lit (number k.counts.number) at in
     let whole = core.Binary words.Mul (core.Binary words.Div m n at) n at in

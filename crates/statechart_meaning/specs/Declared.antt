@@ -65,32 +65,27 @@ vars_in d x = map (expand_var d (home_of x.frames)) x.parts.vars
 
 -- ---- counters
 
--- a counter: the state, and the event that it counts
+-- a counter: the name of its datum, and the event that it counts
 pub record Counter : Type 0 where
-  pub home : Home
+  pub name : List ℕ
   pub event : NameText
 
 -- the counters of a state
 abbrev pub counters_in : List SourceEvent → Placed → List Counter
 counters_in es x =
-    map (λ (e : NameText). record { home = home_of x.frames; event = e }) (counted_events es x.parts)
+    map (λ (e : NameText). record { name = counter_name (home_of x.frames) e.text; event = e })
+    (counted_events es x.parts)
 
--- a counter of `every`: the state, the event and the number
+-- a counter of `every`: the name of its datum, the event and the number
 pub record EveryCounter : Type 0 where
-  pub home : Home
+  pub name : List ℕ
   pub counts : Recurring
 
 -- those of a state
 abbrev pub every_in : Declared → Calls → Placed → List EveryCounter
-every_in d calls x = map (λ (r : Recurring). record { home = home_of x.frames; counts = r })
+every_in d calls x =
+    map (λ (r : Recurring). record { name = every_name (home_of x.frames) r.event.text r.number; counts = r })
     (recurring (scope_at d calls x.frames) x.parts)
-
--- the names of both, at the place of the event
-abbrev pub counter_text : Counter → List ℕ
-counter_text k = counter_name k.home k.event.text
-
-abbrev pub every_text : EveryCounter → List ℕ
-every_text k = every_name k.home k.counts.event.text k.counts.number
 
 -- a whole number of 32 bits that is 0 at first and stays at its end
 abbrev pub counting_var : List ℕ → Span → core.Var
@@ -103,7 +98,7 @@ counting_var text at = record {
 
 -- the declarations of both
 abbrev pub counter_var : Counter → core.Var
-counter_var k = counting_var (counter_text k) k.event.at
+counter_var k = counting_var k.name k.event.at
 
 abbrev pub every_var : EveryCounter → core.Var
-every_var k = counting_var (every_text k) k.counts.event.at
+every_var k = counting_var k.name k.counts.event.at

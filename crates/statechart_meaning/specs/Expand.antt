@@ -51,10 +51,10 @@ state_place (StateOf p states) = p.name.at
 abbrev pub expand_event : SourceEvent → EventText
 expand_event e = record { kind = e.kind; name = e.name }
 
--- the data, those of states and the counters
+-- the data: those of states, the counters of `every`, and behind all others the counters
 abbrev pub vars_of : Statechart → List core.Var
 vars_of x =
-    flat_map (vars_in (declared_of x)) (placed x.root) ++ map counter_var (counters_of x) ++ map every_var (every_of x)
+    flat_map (vars_in (declared_of x)) (placed x.root) ++ map every_var (every_of x) ++ map counter_var (counters_of x)
 
 -- what counts at the head of the inner list of the statechart
 abbrev pub counts_of : Bool → Statechart → List core.Trans

@@ -1,5 +1,5 @@
 -- The values of constants and enumerators, the types of enumerations, and first values.
-use Rattle.std.specs.Prelude.{ℕ, ◌+◌, ◌-◌, ◌*◌, ◌/◌, ◌%◌, ◌^◌, ◌==◌, nat_lt, nat_le, max, Bool, true, false, not, ◌&&◌}
+use Rattle.std.specs.Prelude.{ℕ, ◌+◌, ◌-◌, ◌*◌, ◌/◌, ◌%◌, ◌^◌, ◌==◌, nat_lt, nat_le, Bool, true, false, not, ◌&&◌}
 use Rattle.std.specs.Prelude.{List, [], ◌∷◌, ◌++◌, map, Option, Some, None, bytes_eq, if◌then◌else◌}
 use Rattle.std.specs.Option.{option_map, unwrap_or}
 use Rattle.token_grammar.specs.declared.token.Span.{Span}
@@ -98,14 +98,16 @@ value_in (Some e) name = value_named (enumeration_values e) name
 
 -- ---- the type of an enumeration
 
--- the greatest number from 0 on, and the greatest distance of one below 0
-abbrev pub above : List (Member × Whole) → ℕ
-above [] = 0
-above (m ∷ ms) = max (if m.1.negative then 0 else m.1.size) (above ms)
+-- the size of a number that is below 0, or of one that isn't, and 0 of another one
+abbrev pub size_with : Bool → Whole → ℕ
+size_with false w = if w.negative then 0 else w.size
+size_with true w = if w.negative then w.size else 0
 
-abbrev pub below : List (Member × Whole) → ℕ
-below [] = 0
-below (m ∷ ms) = max (if m.1.negative then m.1.size else 0) (below ms)
+-- the greatest of such sizes and of what was found before
+abbrev pub farthest : Bool → ℕ → List (Member × Whole) → ℕ
+farthest negative found [] = found
+farthest negative found (m ∷ ms) =
+    farthest negative (if nat_lt found (size_with negative m.1) then size_with negative m.1 else found) ms
 
 -- whether the width has room: unsigned, and with a sign
 abbrev pub holds : Bool → ℕ → ℕ → ℕ → Bool
@@ -121,8 +123,9 @@ width_for signed high low =
 -- the least type of whole numbers that has all enumerators; it has a sign where one of them is below 0
 abbrev pub enumeration_sort : List (Member × Whole) → core.Sort
 enumeration_sort ms =
-    let signed = nat_lt 0 (below ms) in
-    core.NumberSort (record { signed = signed; width = width_for signed (above ms) (below ms); frac = 0 }) Saturate
+    let high = farthest false 0 ms in
+    let low = farthest true 0 ms in
+    core.NumberSort (record { signed = nat_lt 0 low; width = width_for (nat_lt 0 low) high low; frac = 0 }) Saturate
 
 -- ---- types and first values
 
@@ -192,17 +195,20 @@ values_of es ks = values_after es [] ks
 
 -- ---- first values of data
 
--- the first enumerator, if there is one
-abbrev pub first_member : List (Member × Whole) → Option Value
-first_member [] = None
-first_member (m ∷ ms) = Some (NumberValue m.1.negative (number m.1.size))
+-- the first enumerator
+abbrev pub first_member : List (Member × Whole) → Value
+first_member [] = FlagValue false
+first_member (m ∷ ms) = NumberValue m.1.negative (number m.1.size)
+
+abbrev pub first_in : Option Enumeration → Value
+first_in None = FlagValue false
+first_in (Some e) = first_member (members_of e)
 
 -- the first value of a datum that has none written: 0, false, or the first enumerator
 abbrev pub missing_value : List Enumeration → Sort → Value
 missing_value es (Plain core.FlagSort) = FlagValue false
 missing_value es (Plain (core.NumberSort scale mode)) = NumberValue false (number 0)
-missing_value es (OfEnumeration name) =
-    unwrap_or (first_member (unwrap_or (option_map members_of (enumeration_named es name.text)) [])) (FlagValue false)
+missing_value es (OfEnumeration name) = first_in (enumeration_named es name.text)
 
 -- a value as a first value; 0 has one form
 abbrev pub init_of : Value → Span → InitText

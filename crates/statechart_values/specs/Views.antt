@@ -1,10 +1,10 @@
 -- Values of the code as definitions see them.
 use Rattle.std.specs.Prelude.{ℕ, List, map, Option, Some, None}
-use Rattle.statechart_tree.specs.declared.declarations.Period.{Period}
 use Rattle.statechart_meaning.specs.Numbers as numbers
 use Rattle.statechart_meaning.specs.Times as times
 use Rattle.statechart_meaning.specs.Values as values
 use Rattle.statechart_values.specs.declared.counts.Timer.{Timer}
+use Rattle.statechart_values.specs.declared.events.Clock.{Clock}
 use Rattle.statechart_values.specs.declared.enumerations.Whole.{Whole}
 use Rattle.statechart_values.specs.declared.binary.Binary.{Binary}
 use Rattle.statechart_values.specs.declared.value.Value.{Value}
@@ -28,6 +28,10 @@ valued_seen v = record { name = v.name.now.text; value = value_seen v.value }
 abbrev pub whole_seen : Whole → values.Whole
 whole_seen w = record { negative = w.negative; size = w.size }
 
+-- a clock of the code
+abbrev pub clock_seen : Clock → times.Clock
+clock_seen c = record { name = c.name.now.text; period = c.period }
+
 -- a unit with the clock of the code
 abbrev pub timer_seen : Timer → times.Timer
-timer_seen t = record { unit = t.unit; clock = record { name = t.name.now.text; period = t.period } }
+timer_seen t = record { unit = t.unit; clock = clock_seen t.clock }

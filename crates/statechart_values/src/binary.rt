@@ -11,4 +11,3 @@ pub(crate) struct Binary {
     pub ghost short: { mantissa < 2 ^ 99 },
     pub ghost few: { bits ≤ 32 },
 }
-

@@ -5,11 +5,18 @@
 #![tactic(auto)]
 
 mod binary;
+mod constants;
 mod counts;
 mod enumerations;
+mod events;
+mod firsts;
 mod numbers;
 mod value;
 
-pub use counts::Timer;
+pub use constants::constant_values;
+pub use counts::{Timer, literal_count, timer_of, unit_steps};
+pub use enumerations::{enumeration_named, expand_sort};
+pub use events::{Clock, is_event};
+pub use firsts::{expand_first, path_value};
 pub use numbers::{number, whole_of};
 pub use value::{Value, Valued, value_named};

@@ -62,7 +62,7 @@ pub(crate) fn exact_quotient(a: u128, b: u128) -> Option<u128>
 }
 
 /// A power of two.
-fn power_of_two(bits: u32) -> u128
+pub(crate) fn power_of_two(bits: u32) -> u128
     requires { bits ≤ 64 }
     ensures { result ≡ 2 ^ bits }
 {

@@ -8,24 +8,24 @@ use Rattle.chart_tree.specs.declared.name.NameText.{NameText}
 use Rattle.chart_tree.specs.declared.chart.EventText.{EventText}
 use Rattle.chart_tree.specs.Trees as core
 use Rattle.statechart_tree.specs.declared.declarations.SourceEvent.{SourceEvent}
-use Rattle.statechart_tree.specs.Trees.{Parts, State, States, Trans, Action, Case}
+use Rattle.statechart_tree.specs.Trees.{State, Trans}
 use Rattle.statechart_meaning.specs.Names.{Home, datum_name, counter_name, every_name}
 use Rattle.statechart_meaning.specs.Scope.{Declared, Frame, Scope, datum_in, datum_named, frame_of, home_of, state_count}
-use Rattle.statechart_meaning.specs.Scope.{or_value, or_text, meaning_of, below_path}
-use Rattle.statechart_meaning.specs.Expressions.{expand_expr, name_expr, meaning_expr}
-use Rattle.statechart_meaning.specs.Statements.{expand_stmt, expand_block, target, meaning_target}
+use Rattle.statechart_meaning.specs.Scope.{or_value, or_text, below_path}
+use Rattle.statechart_meaning.specs.Expressions.{expand_expr, meaning_expr}
+use Rattle.statechart_meaning.specs.Statements.{expand_stmt, expand_block, meaning_target}
 use Rattle.statechart_meaning.specs.Transitions.{Tried, expand_guard, tried, expand_trans, expand_list, expand_junction}
 use Rattle.statechart_meaning.specs.Functions.{no_calls}
 use Rattle.statechart_meaning.specs.Counting.{counted_in, counted_by, counted_block, counted_guard, counted_trigger}
 use Rattle.statechart_meaning.specs.Counting.{counted_trans, counted_events, without, every_trigger, every_cases, recurring}
-use Rattle.statechart_meaning.specs.Counting.{blocks_with, is_entry, is_during, is_exit, ons_in, different_every, Recurring, OnAction}
+use Rattle.statechart_meaning.specs.Counting.{ons_in, different_every, Recurring, OnAction}
 use Rattle.statechart_meaning.specs.Declared.{Placed, placed_state, placed_below, scope_at, root_home, vars_in, expand_var}
 use Rattle.statechart_meaning.specs.Declared.{counters_in, every_in, Counter, EveryCounter, placed, counter_var, every_var}
 use Rattle.statechart_meaning.specs.Counters.{reset, every_reset, counting, every_counting, events_of, every_events, next_junctions}
-use Rattle.statechart_meaning.specs.States.{expand_entry, expand_parts, expand_placed, expand_state, expand_states, init_stmts, inits_of}
+use Rattle.statechart_meaning.specs.States.{expand_entry, expand_placed, expand_state, expand_states, init_stmts, inits_of}
 use Rattle.statechart_meaning.specs.Expand.{expand, expand_event, state_place}
 use Rattle.statechart_meaning.specs.Plain.{plain_expr, plain_stmt, plain_trigger, plain_guard, plain_trans, plain_junction}
-use Rattle.statechart_meaning.specs.Plain.{plain_action, plain_var, plain_parts, plain_state, plain_states, plain_event}
+use Rattle.statechart_meaning.specs.Plain.{plain_var, plain_parts, plain_state, plain_states, plain_event}
 use Rattle.statechart_meaning.specs.Plain.{plain}
 use Rattle.statechart_meaning.proofs.ListLemmas.{map_back, flat_back, flat_none, none_of, flat_both}
 

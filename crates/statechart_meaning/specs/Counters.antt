@@ -1,5 +1,5 @@
 -- How counters are set to 0 and counted.
-use Rattle.std.specs.Prelude.{ℕ, false, List, [], ◌∷◌, map, Option, Some, None, bytes_eq}
+use Rattle.std.specs.Prelude.{ℕ, false, List, [], ◌∷◌, map, Some, None, bytes_eq}
 use Rattle.std.specs.List.{filter}
 use Rattle.token_grammar.specs.declared.token.Span.{Span}
 use Rattle.chart_tree.specs.declared.name.NameText.{NameText}

@@ -1,6 +1,5 @@
 -- The states of a statechart in order, their data and their counters.
 use Rattle.std.specs.Prelude.{ℕ, ◌+◌, suc, false, List, [], ◌∷◌, ◌++◌, map}
-use Rattle.std.specs.List.{flat_map}
 use Rattle.token_grammar.specs.declared.token.Span.{Span}
 use Rattle.fixed_point.specs.declared.fitting.Mode.TheVariants.{Saturate}
 use Rattle.chart_tree.specs.declared.name.NameText.{NameText}

@@ -1,5 +1,5 @@
 -- Expressions without the new words.
-use Rattle.std.specs.Prelude.{ℕ, List, [], ◌∷◌}
+use Rattle.std.specs.Prelude.{List, [], ◌∷◌}
 use Rattle.token_grammar.specs.declared.token.Span.{Span}
 use Rattle.chart_tree.specs.declared.name.NameText.{NameText}
 use Rattle.chart_tree.specs.declared.expr.BinWord.TheVariants as words
@@ -9,7 +9,7 @@ use Rattle.statechart_tree.specs.declared.expr.TimeWord.{TimeWord}
 use Rattle.statechart_tree.specs.declared.expr.TimeWord.TheVariants as times
 use Rattle.statechart_tree.specs.Trees.{Expr, Lit, Flag, Name, Active, Count, Timed, Call, Unary, Binary, Exprs, NoExpr}
 use Rattle.statechart_tree.specs.Trees.{MoreExprs}
-use Rattle.statechart_meaning.specs.Names.{Home, named, counter_name}
+use Rattle.statechart_meaning.specs.Names.{named, counter_name}
 use Rattle.statechart_meaning.specs.Values.{value_expr}
 use Rattle.statechart_meaning.specs.Times.{timer_of, counted_event, count_expr}
 use Rattle.statechart_meaning.specs.Scope.{Scope, Meaning, IsArgument, IsDatum, IsValue, IsUnknown, meaning_of, first_name}

@@ -1,8 +1,8 @@
 -- What calls of functions stand for.
-use Rattle.std.specs.Prelude.{ℕ, List, [], ◌∷◌, ◌++◌, map, Option, Some, None, bytes_eq, if◌then◌else◌}
+use Rattle.std.specs.Prelude.{List, [], ◌∷◌, bytes_eq, if◌then◌else◌}
 use Rattle.chart_tree.specs.declared.name.NameText.{NameText}
 use Rattle.chart_tree.specs.Trees as core
-use Rattle.statechart_tree.specs.Trees.{Expr, Stmt, Body, Block, Value, Function}
+use Rattle.statechart_tree.specs.Trees.{Body, Block, Value, Function}
 use Rattle.statechart_meaning.specs.Scope.{Declared, Frame, Argument, Calls, Scope}
 use Rattle.statechart_meaning.specs.Expressions.{expand_expr}
 use Rattle.statechart_meaning.specs.Statements.{expand_block}

@@ -1,11 +1,11 @@
 -- A chart text as a statechart text without any of the new words.
-use Rattle.std.specs.Prelude.{List, [], ◌∷◌, ◌++◌, map, Option, Some, None}
+use Rattle.std.specs.Prelude.{List, [], ◌∷◌, map, Option, Some, None}
 use Rattle.chart_tree.specs.declared.name.NameText.{NameText}
 use Rattle.chart_tree.specs.declared.chart.EventText.{EventText}
 use Rattle.chart_tree.specs.Trees as core
 use Rattle.statechart_tree.specs.declared.declarations.SourceEvent.{SourceEvent}
 use Rattle.statechart_tree.specs.Trees.{Expr, Lit, Flag, Name, Active, Unary, Binary, Stmt, Assign, Send, Emit, Trigger}
-use Rattle.statechart_tree.specs.Trees.{Always, On, Guard, Case, Trans, Junction, ActionWord, Entry, During, Exit, Action}
+use Rattle.statechart_tree.specs.Trees.{Always, On, Guard, Trans, Junction, ActionWord, Entry, During, Exit, Action}
 use Rattle.statechart_tree.specs.Trees.{Plain, Given, Var, Parts, State, StateOf, States, NoState, MoreStates, Statechart}
 
 abbrev pub plain_expr : core.Expr → Expr

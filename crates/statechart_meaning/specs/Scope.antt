@@ -1,15 +1,14 @@
 -- What a name means where it stands.
-use Rattle.std.specs.Prelude.{ℕ, ◌+◌, suc, Bool, true, List, [], ◌∷◌, ◌++◌, map, Option, Some, None, bytes_eq, is_some}
+use Rattle.std.specs.Prelude.{ℕ, ◌+◌, suc, List, [], ◌∷◌, ◌++◌, map, Option, Some, None, bytes_eq, is_some}
 use Rattle.std.specs.Prelude.{if◌then◌else◌}
 use Rattle.flow_base.specs.Names.{index_of}
-use Rattle.token_grammar.specs.declared.token.Span.{Span}
 use Rattle.chart_tree.specs.declared.name.NameText.{NameText}
 use Rattle.chart_tree.specs.Trees as core
 use Rattle.chart_tree.specs.Trees.{Path}
 use Rattle.statechart_tree.specs.declared.declarations.SourceEvent.{SourceEvent}
 use Rattle.statechart_tree.specs.Trees.{Enumeration, Var, Parts, State, StateOf, States, NoState, MoreStates}
 use Rattle.statechart_meaning.specs.Names.{Home, named, datum_name}
-use Rattle.statechart_meaning.specs.Values.{Value, Valued, value_expr, path_value}
+use Rattle.statechart_meaning.specs.Values.{Value, Valued, path_value}
 
 -- what a statechart declares: its enumerations, its events, and its constants with their values
 pub record Declared : Type 0 where

@@ -13,7 +13,7 @@ use Rattle.statechart_tree.specs.Trees.{Stmt, Assign, Update, Step, Send, Emit, 
 use Rattle.statechart_meaning.specs.Names.{named}
 use Rattle.statechart_meaning.specs.Numbers.{number}
 use Rattle.statechart_meaning.specs.Scope.{Scope, Meaning, IsArgument, IsDatum, IsValue, IsUnknown, meaning_of, first_name}
-use Rattle.statechart_meaning.specs.Expressions.{expand_expr, expand_exprs, name_expr}
+use Rattle.statechart_meaning.specs.Expressions.{expand_expr, expand_exprs}
 
 -- the datum that an argument is; one that is none isn't accepted
 abbrev pub argument_target : core.Expr → NameText → NameText

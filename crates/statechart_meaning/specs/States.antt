@@ -7,7 +7,7 @@ use Rattle.chart_tree.specs.declared.expr.UnWord.TheVariants.{Neg}
 use Rattle.chart_tree.specs.declared.sort.InitText.{InitText}
 use Rattle.chart_tree.specs.declared.sort.InitText.TheVariants as inits
 use Rattle.chart_tree.specs.Trees as core
-use Rattle.statechart_tree.specs.Trees.{Var, Parts, State, StateOf, States, NoState, MoreStates}
+use Rattle.statechart_tree.specs.Trees.{Parts, State, StateOf, States, NoState, MoreStates}
 use Rattle.statechart_meaning.specs.Names.{Home, named}
 use Rattle.statechart_meaning.specs.Scope.{Declared, Frame, Calls, Scope, state_count, below_path, frame_of, home_of}
 use Rattle.statechart_meaning.specs.Counting.{OnAction, ons_in, blocks_with, is_entry, is_during, is_exit}

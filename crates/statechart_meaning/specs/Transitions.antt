@@ -7,8 +7,7 @@ use Rattle.chart_tree.specs.declared.name.NameText.{NameText}
 use Rattle.chart_tree.specs.declared.expr.BinWord.TheVariants as words
 use Rattle.chart_tree.specs.Trees as core
 use Rattle.chart_tree.specs.Trees.{ToJunction}
-use Rattle.statechart_tree.specs.declared.expr.TimeWord.{TimeWord}
-use Rattle.statechart_tree.specs.Trees.{Expr, Stmt, Guard, Trigger, Always, On, AtTime, Every, Case, Trans, Junction}
+use Rattle.statechart_tree.specs.Trees.{Stmt, Guard, Trigger, Always, On, AtTime, Every, Case, Trans, Junction}
 use Rattle.statechart_meaning.specs.Names.{named, every_name, next_name}
 use Rattle.statechart_meaning.specs.Times.{counted_event, count_number}
 use Rattle.statechart_meaning.specs.Scope.{Scope, home_of}

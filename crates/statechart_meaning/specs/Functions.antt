@@ -1,5 +1,6 @@
 -- What calls of functions stand for.
-use Rattle.std.specs.Prelude.{List, [], ◌∷◌, bytes_eq, if◌then◌else◌}
+use Rattle.std.specs.Prelude.{List, [], ◌∷◌, bytes_eq, is_some, if◌then◌else◌}
+use Rattle.flow_base.specs.Names.{index_of}
 use Rattle.chart_tree.specs.declared.name.NameText.{NameText}
 use Rattle.chart_tree.specs.Trees as core
 use Rattle.statechart_tree.specs.Trees.{Body, Block, Value, Function}
@@ -9,7 +10,7 @@ use Rattle.statechart_meaning.specs.Statements.{expand_block}
 
 -- where there is no function, a call is a name that nothing declares, or no statement
 abbrev pub no_calls : Calls
-no_calls = record { value = λ name arguments. core.Name name; block = λ name arguments. [] }
+no_calls = record { names = []; value = λ name arguments. core.Name name; block = λ name arguments. [] }
 
 -- the arguments of the parameters; what is left over isn't accepted
 abbrev pub bound : List NameText → List core.Expr → List Argument
@@ -33,8 +34,9 @@ body_block s (Block stmts) = expand_block s stmts
 body_block s (Value e) = []
 
 -- one function more, behind those that it sees
-abbrev pub with_function : List Frame → Declared → Calls → Function → Calls
-with_function frames declared calls f = record {
+abbrev pub and_function : List Frame → Declared → Calls → Function → Calls
+and_function frames declared calls f = record {
+  names = f.name.text ∷ calls.names;
   value = λ name values.
       if bytes_eq f.name.text name.text then body_value (scope_in frames declared calls f values) f.body name
       else calls.value name values;
@@ -42,6 +44,11 @@ with_function frames declared calls f = record {
       if bytes_eq f.name.text name.text then body_block (scope_in frames declared calls f values) f.body
       else calls.block name values;
 }
+
+-- a name means the first function that has it
+abbrev pub with_function : List Frame → Declared → Calls → Function → Calls
+with_function frames declared calls f =
+    if is_some (index_of f.name.text calls.names) then calls else and_function frames declared calls f
 
 -- functions behind those that are known, each of which sees those above it
 abbrev pub calls_after : List Frame → Declared → Calls → List Function → Calls

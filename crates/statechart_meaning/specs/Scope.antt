@@ -27,8 +27,9 @@ pub record Argument : Type 0 where
   pub name : List ℕ
   pub value : core.Expr
 
--- what calls of functions stand for, given the name and the arguments: a value, or statements
+-- the names of functions, and what calls of them stand for, given the name and the arguments: a value, or statements
 pub record Calls : Type 0 where
+  pub names : List (List ℕ)
   pub value : NameText → List core.Expr → core.Expr
   pub block : NameText → List core.Expr → List core.Stmt
 

@@ -1,6 +1,6 @@
 -- Times in steps of the clock, and counts.
 use Rattle.std.specs.Prelude.{ℕ, ◌*◌, ◌^◌, ◌==◌, ◌&&◌, nat_lt, nat_le, Bool, true, false, List, [], ◌∷◌, Option, Some, None}
-use Rattle.std.specs.Prelude.{codes, bytes_eq, if◌then◌else◌}
+use Rattle.std.specs.Prelude.{codes, bytes_eq, is_some, if◌then◌else◌}
 use Rattle.std.specs.Option.{unwrap_or}
 use Rattle.token_grammar.specs.declared.token.Span.{Span}
 use Rattle.chart_tree.specs.declared.name.NameText.{NameText}
@@ -97,10 +97,10 @@ steps_in t count places =
 
 -- ---- counts
 
--- the number of a literal of a count, in steps of the clock where it has a unit
+-- the number of a literal of a count, in steps of the clock where it has a unit: then it has no `q`
 abbrev pub literal_count : Option Timer → LitText → Option ℕ
 literal_count None lit = whole_of lit
-literal_count (Some t) lit = steps_in t lit.units lit.places
+literal_count (Some t) lit = if is_some lit.q then None else steps_in t lit.units lit.places
 
 -- the whole literal, or else the other expression
 abbrev pub count_or : core.Expr → Span → Option ℕ → core.Expr

@@ -12,7 +12,7 @@ use Rattle.chart_tree.specs.declared.sort.InitText.TheVariants as inits
 use Rattle.chart_tree.specs.Trees as core
 use Rattle.chart_tree.specs.Trees.{Path}
 use Rattle.statechart_tree.specs.declared.declarations.Member.{Member}
-use Rattle.statechart_meaning.specs.Numbers.{number, binary_of, at_bits, wide}
+use Rattle.statechart_meaning.specs.Numbers.{number, binary_of, whole_of, at_bits, wide}
 use Rattle.statechart_tree.specs.Trees.{Enumeration, Constant, Sort, Plain, OfEnumeration, First, Missing, Given, Named}
 
 -- ---- values
@@ -54,10 +54,10 @@ abbrev pub one_more : Whole → Whole
 one_more w =
     if w.negative then whole true (w.size - 1) else (if nat_lt w.size wide then whole false (w.size + 1) else w)
 
--- the number that is written, or else the given one; the digits of a number are those of a whole one
+-- the number that is written, or else the given one; one that isn't whole isn't accepted
 abbrev pub member_number : Whole → Option (Bool × LitText × Span) → Whole
 member_number next None = next
-member_number next (Some n) = whole n.0 n.1.units
+member_number next (Some n) = whole n.0 (unwrap_or (whole_of n.1) 0)
 
 -- the enumerators with their numbers, where the next number is that one
 abbrev pub numbered : Whole → List Member → List (Member × Whole)

@@ -120,7 +120,13 @@ pub fn literal_count(timer: Option<Timer<'_>>, lit: LitText) -> Option<u128>
 {
     match timer {
         None => whole_of(lit),
-        Some(timer) => steps_in(timer, lit.units, lit.places),
+        Some(timer) => {
+            if lit.q.is_some() {
+                None
+            } else {
+                steps_in(timer, lit.units, lit.places)
+            }
+        }
     }
 }
 

@@ -8,7 +8,7 @@ ghost use Rattle.statechart_meaning.specs.Numbers as numbers;
 ghost use Rattle.statechart_meaning.specs.Values as spec;
 ghost use Rattle.statechart_values.specs.Views.{value_seen, whole_seen};
 
-use crate::numbers::{WIDE, number, power_of_two};
+use crate::numbers::{WIDE, number, power_of_two, whole_of};
 use crate::value::Value;
 use chart_tree::{LitText, SortText, Span};
 use fixed_point::{Mode, Scale};
@@ -52,7 +52,7 @@ fn member_number(next: Whole, written: Option<(bool, LitText, Span)>) -> Whole
 {
     match written {
         None => next,
-        Some((negative, lit, _)) => signed_whole(negative, lit.units),
+        Some((negative, lit, _)) => signed_whole(negative, whole_of(lit).unwrap_or(0)),
     }
 }
 

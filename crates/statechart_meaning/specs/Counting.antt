@@ -65,7 +65,7 @@ abbrev mutual
   counted_in es (Flag value at) = []
   counted_in es (Name path) = []
   counted_in es (Active path at) = []
-  counted_in es (Count event at) = counted_event es event ∷ []
+  counted_in es (Count event at) = event ∷ []
   counted_in es (Timed word n event at) = counted_event es event ∷ counted_in es n
   counted_in es (Call name arguments) = counted_row es arguments
   counted_in es (Unary word e at) = counted_in es e

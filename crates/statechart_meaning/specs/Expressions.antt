@@ -27,14 +27,17 @@ name_expr s path = meaning_expr (meaning_of s path) (first_name path)
 
 -- the counter of an event for the state in which it is used, at the place of the word
 abbrev pub counter : Scope → NameText → Span → core.Expr
-counter s event at =
-    core.Name (named (counter_name (home_of s.frames) (counted_event s.declared.events event).text) at)
+counter s event at = core.Name (named (counter_name (home_of s.frames) event.text) at)
+
+-- that of the event that is counted where an event or a unit stands
+abbrev pub timed_counter : Scope → NameText → Span → core.Expr
+timed_counter s event at = counter s (counted_event s.declared.events event) at
 
 -- the test of a word, where the count is n
 abbrev pub test : Scope → TimeWord → core.Expr → NameText → Span → core.Expr
-test s times.After n event at = core.Binary words.Ge (counter s event at) n at
-test s times.Before n event at = core.Binary words.Lt (counter s event at) n at
-test s times.At n event at = core.Binary words.Eq (counter s event at) n at
+test s times.After n event at = core.Binary words.Ge (timed_counter s event at) n at
+test s times.Before n event at = core.Binary words.Lt (timed_counter s event at) n at
+test s times.At n event at = core.Binary words.Eq (timed_counter s event at) n at
 
 -- the count of a word, in steps of the clock where the name is a unit
 abbrev pub count : Scope → core.Expr → NameText → core.Expr

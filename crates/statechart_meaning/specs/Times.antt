@@ -79,7 +79,7 @@ counted_event es name = event_with (timer_of es name.text) name
 
 -- ---- steps
 
--- numbers with a unit have at most 12 digits
+-- numbers with a unit have at most 12 digits behind the point, and at most 12 from the first on that isn't 0
 abbrev pub few_digits : ℕ
 few_digits = 12
 

@@ -80,12 +80,12 @@ module _ (d : Declared) (calls : Calls) (ks : List (List Counter)) where
       let plain = expand_placed false d calls rest more frames p in
       let resets = map statechart_counters.reset (counters_in d.events x) in
       let same : resets ≡ map reset_stmt (own ks n) =
-          resets_same (counters_in d.events x) ∙ sym (ap (map reset_stmt) e) in
+      resets_same (counters_in d.events x) ∙ sym (ap (map reset_stmt) e) in
       let entry : (expand_placed true d calls (first ++ rest) more frames p).entry
-          ≡ map reset_stmt (own ks n) ++ plain.entry =
-          behind_first resets _ _ _ ∙ ap (λ (l : List core.Stmt). l ++ plain.entry) same in
+      ≡ map reset_stmt (own ks n) ++ plain.entry =
+      behind_first resets _ _ _ ∙ ap (λ (l : List core.Stmt). l ++ plain.entry) same in
       let inner : (expand_placed true d calls (first ++ rest) more frames p).inner ≡ first ++ plain.inner =
-          behind_three first rest _ _ in
+      behind_three first rest _ _ in
       λ i. record {
         name = plain.name;
         comp = plain.comp;
@@ -116,9 +116,9 @@ module _ (d : Declared) (calls : Calls) (ks : List (List Counter)) where
         let frames = frame_of home p states ∷ above in
         let mine = map counter_of (counters_in d.events (record { frames = frames; parts = p })) in
         let below =
-            counters_of_states d.events (placed_below frames home.path (suc home.number) states) ++ after in
+        counters_of_states d.events (placed_below frames home.path (suc home.number) states) ++ after in
         let longer : length (before ++ mine ∷ []) ≡ suc n =
-            omega (arith, length-append before (mine ∷ []), len) in
+        omega (arith, length-append before (mine ∷ []), len) in
         ap₂ core.StateOf (parts_same first rest more frames p n (own_is before below mine n e len))
         (states_same (before ++ mine ∷ []) after (suc n) frames home.path (suc home.number) states
         (e ∙ sym (append_assoc before (mine ∷ []) below)) longer)
@@ -136,18 +136,18 @@ module _ (d : Declared) (calls : Calls) (ks : List (List Counter)) where
         let f : Placed → List Counter = λ x. map counter_of (counters_in d.events x) in
         let rest = map f there ++ after in
         let apart : ks ≡ before ++ (map f here ++ rest) =
-            e ∙ ap (λ l. before ++ (l ++ after)) (map-append f here there)
-            ∙ ap (λ l. before ++ l) (append_assoc (map f here) (map f there) after) in
+        e ∙ ap (λ l. before ++ (l ++ after)) (map-append f here there)
+        ∙ ap (λ l. before ++ l) (append_assoc (map f here) (map f there) after) in
         let x = expand_state false d calls above home [] [] (StateOf p states) in
         let longer : length (before ++ map f here) ≡ n + size x =
-            omega (
-              arith,
-              length-append before (map f here),
-              length-map here f,
-              placed_size above home (StateOf p states),
-              state_size false d calls above home [] [] (StateOf p states),
-              len,
-            ) in
+        omega (
+          arith,
+          length-append before (map f here),
+          length-map here f,
+          placed_size above home (StateOf p states),
+          state_size false d calls above home [] [] (StateOf p states),
+          len,
+        ) in
         ap₂ core.MoreStates (state_same before rest n above home [] [] [] (StateOf p states) apart len)
         (states_same (before ++ map f here) after (n + size x) above path
         (m + state_count (StateOf p states)) others (apart ∙ sym (append_assoc before (map f here) rest)) longer)
@@ -163,7 +163,7 @@ counted_same x =
     let repeated = counts_of false x in
     let nexts = statechart_counters.next_junctions (counters_of x) (every_of x) (ons_of x) (state_place x.root) in
     let counts = counting_same (counters_of x)
-        ∙ ap (λ (l : List Counter). map (count_trans l) (events_of l)) (sym (all_same x.events (placed x.root))) in
+    ∙ ap (λ (l : List Counter). map (count_trans l) (events_of l)) (sym (all_same x.events (placed x.root))) in
     ap (λ (r : core.State). with_root x r)
     (ap (λ (f : List core.Trans). expand_state true d (functions_of x) [] root_home (f ++ repeated) nexts x.root) counts
     ∙ state_same d (functions_of x) ks [] [] 0 [] root_home (counting_list ks) repeated nexts x.root
@@ -204,11 +204,11 @@ unfolding uncounted placed_states
 enough x =
     let root = (uncounted x).root in
     let lists : length (counters_by_state x) ≡ state_count x.root =
-        length-map (placed x.root) (λ (p : Placed). map counter_of (counters_in x.events p))
-        ∙ placed_size [] root_home x.root in
+    length-map (placed x.root) (λ (p : Placed). map counter_of (counters_in x.events p))
+    ∙ placed_size [] root_home x.root in
     let states : length (places.placed_from None 0 root) ≡ state_count x.root =
-        as_many None 0 root
-        ∙ state_size false (declared_of x) (functions_of x) [] root_home (counts_of false x) _ x.root in
+    as_many None 0 root
+    ∙ state_size false (declared_of x) (functions_of x) [] root_home (counts_of false x) _ x.root in
     omega (arith, lists, states)
 
 -- the chart without what counts is ready for its counters
@@ -226,6 +226,6 @@ ready x =
       junction = λ some. (
         state_place x.root,
         in_root (declared_of x) (functions_of x) (counts_of false x) _ x.root (next_junction (state_place x.root))
-        (next_there (counters_of x) (every_of x) (ons_of x) (state_place x.root) (λ none. some (all ∙ none))),
+            (next_there (counters_of x) (every_of x) (ons_of x) (state_place x.root) (λ none. some (all ∙ none))),
       );
     }

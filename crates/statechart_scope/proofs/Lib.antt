@@ -1,0 +1,2 @@
+pub mod StateViews
+pub mod NameLemmas

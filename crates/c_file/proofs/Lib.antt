@@ -14,6 +14,5 @@ pub mod CodeLemmas
 pub mod StructLemmas
 pub mod OneCode
 pub mod OneText
-pub mod HeadLemmas
 pub mod ServeLemmas
 pub mod SizeLemmas

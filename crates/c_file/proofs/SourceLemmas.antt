@@ -5,9 +5,11 @@ use Rattle.active_config.specs.Tree.{Tree}
 use Rattle.actions.specs.Names.{Names}
 use Rattle.checked_chart.specs.Chart.{Chart}
 use Rattle.code_language.specs.Code.{Code, code_of}
-use Rattle.c_subset.specs.Trees.{Function}
+use Rattle.c_subset.specs.Trees.{Function, File}
 use Rattle.c_functions.specs.Plans.{Shape, Tests}
 use Rattle.c_functions.specs.Files.{shape_of}
+use Rattle.c_functions.specs.Starts.{file_of}
+use Rattle.c_functions.specs.Writer.{plans_of}
 use Rattle.c_text.specs.Labels.{Labels, labels_for, labels_of}
 use Rattle.c_expression_writer.specs.FileShapes.{shape_seen, tests_seen}
 use Rattle.c_file.specs.declared.made.Made.{Made}
@@ -18,7 +20,8 @@ use Rattle.c_header.specs.declared.identity.Identity.{Identity}
 use Rattle.c_header.specs.Header.{calls_number, header_text}
 use Rattle.c_file.specs.Comments.{said_of}
 use Rattle.c_file.specs.Facts.{AreFacts}
-use Rattle.c_file.specs.Functions.{written_file}
+use Rattle.c_passes.specs.Passed.{IsPassed, written_file}
+use Rattle.c_passes.proofs.FunctionLemmas.{functions_are}
 use Rattle.c_file.specs.Made.{functions_of}
 use Rattle.c_file.specs.Changing.{AreChanging}
 use Rattle.c_file.specs.Source.{source_text}
@@ -43,40 +46,43 @@ own_shape k T limits room K is =
     is ∙ ap (λ (S : Shape). shape_of k S.tests S.bounds S.outputs) (sym is)
 
 module _ {c : Chart} {w : Written} {made : Made} (is : IsMadeFor c w made) where
-  -- the functions are those of the file for the code
-  functions_are : functions_of made
-      ≡ (written_file (code_of w.code) (tests_seen w.tests) w.limits w.outputs).functions
+  -- the file that passes make, and that its functions are those
+  abbrev pub file_made : File
+  file_made = is.is_made.passed.made
+
+  functions_made : functions_of made ≡ file_made.functions
   unfolding functions_of
-  functions_are =
-      ap (λ (k : Code). (written_file k (shape_seen made.shape).tests made.shape.bounds made.shape.outputs).functions)
-      is.code
-      ∙ ap (λ (S : Shape). (written_file (code_of w.code) S.tests S.bounds S.outputs).functions) is.shape
+  functions_made = functions_are made.functions.items file_made.functions is.is_made.passed.are
+
+  -- they make it of the file of the code
+  pub passed : IsPassed (shape_of (code_of w.code) (tests_seen w.tests) w.limits w.outputs)
+      (file_of (code_of w.code) (tests_seen w.tests) w.limits w.outputs (plans_of (code_of w.code))) file_made
+  passed =
+      subst (λ (S : Shape). IsPassed S (written_file S (code_of w.code)) file_made) is.shape
+      (subst (λ (k : Code). IsPassed (shape_seen made.shape) (written_file (shape_seen made.shape) k) file_made) is.code
+      is.is_made.passed.passed)
 
   -- what holds of them holds of the functions of that file
   pub facts_hold : (written : List Bool) (facts : SourceFacts)
       → AreFacts (labels_of made.labels) (functions_of made) written facts
-      → AreFacts (names_in c (code_of w.code))
-      (written_file (code_of w.code) (tests_seen w.tests) w.limits w.outputs).functions written facts
+      → AreFacts (names_in c (code_of w.code)) file_made.functions written facts
   facts_hold written facts hold =
-      subst (λ (L : Labels). AreFacts L
-      (written_file (code_of w.code) (tests_seen w.tests) w.limits w.outputs).functions written facts) is.names
-      (subst (λ (fs : List Function). AreFacts (labels_of made.labels) fs written facts) functions_are hold)
+      subst (λ (L : Labels). AreFacts L file_made.functions written facts) is.names
+      (subst (λ (fs : List Function). AreFacts (labels_of made.labels) fs written facts) functions_made hold)
 
   -- and so do those that may change the struct
   pub may_change : (changing : List Bool) → AreChanging (labels_of made.labels) (functions_of made) changing
-      → AreChanging (names_in c (code_of w.code))
-      (written_file (code_of w.code) (tests_seen w.tests) w.limits w.outputs).functions changing
+      → AreChanging (names_in c (code_of w.code)) file_made.functions changing
   may_change changing are =
-      subst (λ (L : Labels). AreChanging L
-      (written_file (code_of w.code) (tests_seen w.tests) w.limits w.outputs).functions changing) is.names
-      (subst (λ (fs : List Function). AreChanging (labels_of made.labels) fs changing) functions_are are)
+      subst (λ (L : Labels). AreChanging L file_made.functions changing) is.names
+      (subst (λ (fs : List Function). AreChanging (labels_of made.labels) fs changing) functions_made are)
 
   -- their source is that for the code
   pub source_is : (written changing : List Bool) (facts : SourceFacts) (identity : Identity)
       → source_text (labels_of made.labels) (said_of made.said) identity made.shape.bounds made.shape.outputs
       made.shape.notes (calls_number facts.calls) (functions_of made) written changing
-      ≡ source_for c (tests_seen w.tests) w.limits w.outputs (code_of w.code) w.origins.items w.tags.items facts written
-      changing identity
+      ≡ source_for c (tests_seen w.tests) w.limits w.outputs (code_of w.code) w.origins.items w.tags.items facts
+      file_made.functions written changing identity
   source_is written changing facts identity =
       let k : Code = code_of w.code in
       let n : ℕ = calls_number facts.calls in
@@ -85,9 +91,9 @@ module _ {c : Chart} {w : Written} {made : Made} (is : IsMadeFor c w made) where
       ∙ ap (λ (xs : List (List ℕ)). source_text (names_in c k) xs identity made.shape.bounds made.shape.outputs
       made.shape.notes n (functions_of made) written changing) is.said
       ∙ ap (λ (fs : List Function). source_text (names_in c k) (comments_in c w.origins.items w.tags.items) identity
-      made.shape.bounds made.shape.outputs made.shape.notes n fs written changing) functions_are
+      made.shape.bounds made.shape.outputs made.shape.notes n fs written changing) functions_made
       ∙ ap (λ (S : Shape). source_text (names_in c k) (comments_in c w.origins.items w.tags.items) identity
-      S.bounds S.outputs S.notes n (written_file k (tests_seen w.tests) w.limits w.outputs).functions written changing) is.shape
+      S.bounds S.outputs S.notes n file_made.functions written changing) is.shape
 
   -- and so is their header
   pub header_is : (facts : SourceFacts) (identity : Identity)

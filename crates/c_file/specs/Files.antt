@@ -17,6 +17,10 @@ use Rattle.chart_parts.specs.Parts.{parts_of}
 use Rattle.c_functions.specs.Failing.{AfterIsRight}
 use Rattle.c_functions.specs.Files.{shape_of}
 use Rattle.c_functions.specs.Plans.{Shape, Tests}
+use Rattle.c_functions.specs.Writer.{plans_of}
+use Rattle.c_functions.specs.Starts.{file_of}
+use Rattle.c_subset.specs.Trees.{Function, File}
+use Rattle.c_passes.specs.Passed.{IsPassed}
 use Rattle.c_runs.specs.Claims.{FileRunsAsRules, FitsChart, Serves}
 use Rattle.c_text.specs.Labels.{Labels, labels_for, labels_of}
 use Rattle.c_expression_writer.specs.FileShapes.{shape_seen, tests_seen}
@@ -30,7 +34,6 @@ use Rattle.c_file.specs.declared.written.Written.{Written}
 use Rattle.c_file.specs.Changing.{AreChanging}
 use Rattle.c_file.specs.Comments.{IsTagOf, comments_for, said_of}
 use Rattle.c_file.specs.Facts.{AreFacts}
-use Rattle.c_file.specs.Functions.{written_file}
 use Rattle.c_file.specs.Made.{IsMade, functions_of}
 use Rattle.c_file.specs.Source.{source_text}
 
@@ -106,14 +109,14 @@ abbrev pub header_for : Chart → Tests → Bounds → ℕ → Code → SourceFa
 header_for c T limits room k facts identity =
     header_text (names_in c k).chart (shape_of k T limits room) facts identity
 
--- its source: the functions that are written, each procedure under words for the part of the chart that it is of and for
--- what it is a copy, where some may change the struct, and the check that the header has the same bounds, the same numbers
--- of outputs, notes and calls, and the sum of the same chart
-abbrev pub source_for : Chart → Tests → Bounds → ℕ → Code → List ℕ → List Tag → SourceFacts → List Bool → List Bool
-    → Identity → List ℕ
-source_for c T limits room k origins tags facts written changing identity =
+-- its source: those of these functions that are written, each procedure under words for the part of the chart that it is
+-- of and for what it is a copy, where some may change the struct, and the check that the header has the same bounds, the
+-- same numbers of outputs, notes and calls, and the sum of the same chart
+abbrev pub source_for : Chart → Tests → Bounds → ℕ → Code → List ℕ → List Tag → SourceFacts → List Function → List Bool
+    → List Bool → Identity → List ℕ
+source_for c T limits room k origins tags facts functions written changing identity =
     source_text (names_in c k) (comments_in c origins tags) identity limits room (shape_of k T limits room).notes
-    (calls_number facts.calls) (written_file k T limits room).functions written changing
+    (calls_number facts.calls) functions written changing
 
 -- both files are those of what they are made from, in lines, for lists of the functions that are reached and of those that
 -- may change the struct, and facts that hold
@@ -130,10 +133,10 @@ pub record IsPrinted (made : Made) (identity : Identity) (files : CFiles) : Type
       made.shape.notes (calls_number facts.calls) (functions_of made) written changing) (string_bytes files.source)
 
 -- The two texts are header and source of a chart, of this making: both of one code, made of the chart's smaller code,
--- with the tests, limits and room that it needs under the bounds that were asked for, and arrays of sizes that C takes.
--- The header says the facts that hold of the functions of its file, and the source has those that are reached, with a
--- struct that is const but where a function may change it. No line of either is too long. That file runs as the rules say
--- under these bounds.
+-- with the tests, limits and room that it needs under the bounds that were asked for, and arrays of sizes that C takes;
+-- and of one file, made by passes of that of the code. The header says the facts that hold of the functions of the file,
+-- and the source has those that are reached, with a struct that is const but where a function may change it. No line of
+-- either is too long. The file runs as the rules say under these bounds.
 pub record IsC (c : Chart) (identity : Identity) (header source : List ℕ) : Type 0 where
   pub code : Code
   pub tags : List Tag
@@ -141,17 +144,20 @@ pub record IsC (c : Chart) (identity : Identity) (header source : List ℕ) : Ty
   pub tests : Tests
   pub limits : Bounds
   pub room : ℕ
+  pub file : File
   pub written : List Bool
   pub changing : List Bool
   pub facts : SourceFacts
   pub is_written : IsWritten c identity.bounds code tags origins
   pub limits_are : AreLimits code identity.bounds tests limits room
   pub sizes : HasSizes (shape_of code tests limits room)
-  pub hold : AreFacts (names_in c code) (written_file code tests limits room).functions written facts
-  pub may_change : AreChanging (names_in c code) (written_file code tests limits room).functions changing
+  pub passed : IsPassed (shape_of code tests limits room) (file_of code tests limits room (plans_of code)) file
+  pub hold : AreFacts (names_in c code) file.functions written facts
+  pub may_change : AreChanging (names_in c code) file.functions changing
   pub header_is : IsInLines (header_for c tests limits room code facts identity) header
-  pub source_is : IsInLines (source_for c tests limits room code origins tags facts written changing identity) source
-  pub runs : FileRunsAsRules c identity.bounds (shape_of code tests limits room) (written_file code tests limits room)
+  pub source_is : IsInLines
+      (source_for c tests limits room code origins tags facts file.functions written changing identity) source
+  pub runs : FileRunsAsRules c identity.bounds (shape_of code tests limits room) file
 
 -- the text is the header of a chart's C, beside some source
 abbrev pub IsHeader : Chart → Identity → List ℕ → Type 0

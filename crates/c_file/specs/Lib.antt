@@ -7,6 +7,5 @@ pub mod Heights
 pub mod Source
 pub mod Facts
 pub mod Comments
-pub mod Functions
 pub mod Made
 pub mod Files

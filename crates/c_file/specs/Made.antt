@@ -7,26 +7,27 @@ use Rattle.c_text.specs.Labels.{Labels, labels_of}
 use Rattle.c_expression_writer.specs.FileShapes.{shape_seen}
 use Rattle.c_writer.specs.Functions.{IsShapeOf}
 use Rattle.c_readers.specs.Readers.{stores}
+use Rattle.c_passes.specs.Passed.{ArePassed, functions_in, written_file}
 use Rattle.c_file.specs.declared.made.Made.{Made}
 use Rattle.c_file.specs.declared.known.Uses.{Uses}
 use Rattle.c_file.specs.Comments.{AreOfChart}
-use Rattle.c_file.specs.Functions.{written_file}
 use Rattle.c_file.specs.Calls.{calls_in, calls_from}
 use Rattle.c_file.specs.Reached.{AreReached, outside_of}
 use Rattle.c_file.specs.Changing.{AreChanging, first_changes}
 use Rattle.c_file.specs.Uses.{is_wide}
 
--- the name is that in the names of the file, the parts and the tags of procedures are those of the chart, and the shape
--- is that of the code
+-- the name is that in the names of the file, the parts and the tags of procedures are those of the chart, the shape is
+-- that of the code, and the functions are what passes make of those of its file
 pub record IsMade (made : Made) : Type 0 where
   pub named : (labels_of made.labels).chart ≡ made.name.now
   pub parts : AreOfChart made.said
   pub shape : IsShapeOf (shape_seen made.shape) (code_of made.code.now)
+  pub passed : ArePassed (shape_seen made.shape) (written_file (shape_seen made.shape) (code_of made.code.now))
+      made.functions.items
 
 -- the functions of the file
 unfoldable pub functions_of : Made → List Function
-functions_of made =
-    (written_file (code_of made.code.now) (shape_seen made.shape).tests made.shape.bounds made.shape.outputs).functions
+functions_of made = functions_in made.functions.items
 
 -- one more function, which has that number: its calls, whether it names a type of 128 bits, and whether it stores in the
 -- struct or is called from outside

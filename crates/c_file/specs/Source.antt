@@ -85,15 +85,16 @@ wide_text chart false = []
 
 -- the declaration of a function that is written; the header has those that are called from outside. changing has a flag
 -- for each function, whether it may change the struct
-unfoldable pub declared_text : Labels → List Bool → List Bool → ℕ → List ℕ
-declared_text L written changing f =
-    if is_written written f && not (outside_of L f) then prototype_text L f (only_reads changing f) else []
+unfoldable pub declared_text : Labels → List Bool → List Bool → ℕ → Function → List ℕ
+declared_text L written changing f g =
+    if is_written written f && not (outside_of L f)
+    then prototype_text L f (only_reads changing f) g.result g.parameters else []
 
 -- those of the functions from number f on
 abbrev pub declarations_text : Labels → List Bool → List Bool → ℕ → List Function → List ℕ
 declarations_text L written changing f [] = []
 declarations_text L written changing f (g ∷ gs) =
-    declared_text L written changing f ++ declarations_text L written changing (f + 1) gs
+    declared_text L written changing f g ++ declarations_text L written changing (f + 1) gs
 
 -- a function under its comment
 abbrev pub commented_text : Labels → List (List ℕ) → List Bool → ℕ → Function → List ℕ

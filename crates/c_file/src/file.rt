@@ -22,7 +22,7 @@ use crate::written::{Written, written_code};
 use c_expression_writer::FileShape;
 use c_header::{Identity, SourceFacts, calls_number, print_header};
 use c_lines::in_lines;
-use c_loops::loops_run_as_calls;
+use c_passes::{functions, passed_files_stand_for_it};
 use c_runs::files_of_code_that_serves_run_as_charts;
 use c_text::Labels;
 use checked_chart::Chart;
@@ -55,6 +55,7 @@ fn made_of<'a>(alloc: Global, chart: &'a Chart, written: &'a Written) -> Result<
         written.limits,
         written.outputs,
     )?;
+    let functions = functions(alloc, &shape, code)?;
     let name = name_of(chart);
     Ok(Made {
         name,
@@ -62,6 +63,7 @@ fn made_of<'a>(alloc: Global, chart: &'a Chart, written: &'a Written) -> Result<
         said: Said::make(alloc, chart, &written.origins, &written.tags)?,
         shape,
         code,
+        functions,
     })
 }
 
@@ -125,7 +127,7 @@ fn lined_source(
     Ok(in_lines(alloc, &text)?)
 }
 
-/// Both files, made of the same. Each function is made twice: to see what it uses, and to print it.
+/// Both files, made of the same.
 fn printed_files(alloc: Global, made: &Made<'_>, identity: Identity) -> Result<CFiles, Memory>
     requires is { IsMade made.now }
     ensures { IfOk result (IsPrinted made.now identity) }
@@ -141,10 +143,9 @@ fn printed_files(alloc: Global, made: &Made<'_>, identity: Identity) -> Result<C
 /// Header and source of a chart's C, both for the same code: what the header declares, and the
 /// functions that it needs. The code is faster than the smaller code of the chart and has its runs,
 /// and the C tests a bound of `identity` unless it is known that no event of that code overruns it.
-/// Each function is made, printed and dropped before the next one, so that no more than the texts,
-/// the code, one function and the numbers of functions that call each other are in memory at once;
-/// while its lines are broken, a text is there three times. No line of either file has more than
-/// 509 characters, and C reads the same as though no line was broken.
+/// The code, all functions, the numbers of those that call each other and both texts are in memory
+/// at once; while its lines are broken, a text is there three times. No line of either file has more
+/// than 509 characters, and C reads the same as though no line was broken.
 ///
 /// `Memory` only where memory was refused.
 ///
@@ -154,7 +155,7 @@ pub fn files(alloc: Global, chart: &Chart, identity: Identity) -> Result<CFiles,
         (string_bytes files.header) (string_bytes files.source)) }
 {
     files_of_code_that_serves_run_as_charts();
-    loops_run_as_calls();
+    passed_files_stand_for_it();
     // Only the proof reads the shape: the chart is valid.
     let _ = chart.shape();
     let written = written_code(alloc, chart, identity.bounds)?;

@@ -63,15 +63,14 @@ fn changes_by_itself(kind: Kind, lines: &[Line]) -> bool
     is_outside(kind) || any_stores(lines)
 }
 
-/// Adds what is known of a function: it is made, and dropped.
-fn add_uses(alloc: Global, made: &Made<'_>, uses: &mut Uses, number: u32) -> Result<(), Memory>
+/// Adds what is known of a function.
+fn add_uses(made: &Made<'_>, uses: &mut Uses, number: u32) -> Result<(), Memory>
     requires is { IsMade made.now }
     requires within { number < length (functions_of made.now) }
     ensures { OnOk result ((g : c.Function) → slice_get (functions_of made.now) number ≡ Some g
         → HasUses (labels_of made.now.labels) number g uses.old uses.new) }
 {
-    let function = made.function(alloc, number)?;
-    let lines = function.lines.items();
+    let lines = made.function(number).lines.items();
     add_lines(&mut uses.calls, number, lines)?;
     let Ok(()) = uses.wide.push(are_wide(lines)) else {
         return Err(Memory);
@@ -84,13 +83,13 @@ fn add_uses(alloc: Global, made: &Made<'_>, uses: &mut Uses, number: u32) -> Res
 }
 
 /// Adds what is known of each function.
-fn add_all_uses(alloc: Global, made: &Made<'_>, uses: &mut Uses) -> Result<(), Memory>
+fn add_all_uses(made: &Made<'_>, uses: &mut Uses) -> Result<(), Memory>
     requires is { IsMade made.now }
     ensures { OnOk result (AreCalls (labels_of made.now.labels) (functions_of made.now)
         uses.old uses.new) }
 {
     for number in 0..made.count() {
-        add_uses(alloc, made, uses, number)?;
+        add_uses(made, uses, number)?;
     }
     Ok(())
 }
@@ -107,7 +106,7 @@ pub(crate) fn uses_of(alloc: Global, made: &Made<'_>) -> Result<Uses, Memory>
         wide: Vec::new(alloc),
         changing: Vec::new(alloc),
     };
-    add_all_uses(alloc, made, &mut uses)?;
+    add_all_uses(made, &mut uses)?;
     close(&mut uses.reached, &uses.calls);
     let turned = turned_calls(alloc, &uses.calls)?;
     close(&mut uses.changing, &turned);

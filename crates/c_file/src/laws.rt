@@ -1,5 +1,5 @@
 //! What holds of the two files of a chart.
-ghost use Rattle.std.specs.Prelude.{◌≡◌, ℕ, List, [], ◌∷◌, ◌++◌, Bool, Some, true, codes, slice_get};
+ghost use Rattle.std.specs.Prelude.{◌≡◌, ℕ, List, [], ◌∷◌, Bool, Some, true, slice_get};
 ghost use Rattle.std.specs.List.{list_all};
 ghost use Rattle.active_config.specs.Tree.{Tree};
 ghost use Rattle.actions.specs.Names.{Names};
@@ -16,7 +16,6 @@ ghost use Rattle.code_language.specs.Code.{Code};
 ghost use Rattle.code_passes.specs.declared.tag.Tag.{Tag};
 ghost use Rattle.c_file.specs.Facts.{AreFacts};
 ghost use Rattle.c_file.specs.Files.{IsCodeFor, IsWritten, names_in, source_for};
-ghost use Rattle.c_file.specs.Functions.{written_file};
 ghost use Rattle.c_functions.specs.Files.{shape_of};
 ghost use Rattle.c_functions.specs.Plans.{Tests};
 ghost use Rattle.c_functions.specs.Starts.{HasShape};
@@ -27,7 +26,6 @@ ghost use Rattle.c_subset.specs.Trees.{File, Function};
 ghost use Rattle.c_header.specs.declared.facts.SourceFacts.{SourceFacts};
 ghost use Rattle.c_header.specs.declared.identity.Identity.{Identity};
 ghost use Rattle.c_header.specs.Header.{calls_number};
-ghost use Rattle.c_text.specs.Functions.{head_text, prototype_text};
 ghost use Rattle.c_text.specs.Labels.{Labels};
 
 /// The smaller code of a chart is one, and so are the numbers that its procedures had: the header
@@ -48,16 +46,6 @@ pub fn the_struct_of_the_header_is_that_of_the_source()
         → HasShape (shape_of k T limits room) s → HasShape (shape_of k' T' limits' room') s }
 {}
 
-/// The declaration of each function of the file that is written for a chart, of which it is told
-/// whether it only reads the struct, is the head of that function, and a semicolon.
-pub fn declarations_of_the_file_are_heads()
-    ensures { (c : Chart) (b : Bounds) (k : Code) (tags : List Tag) (origins : List ℕ) (T : Tests)
-        (limits : Bounds) (room f : ℕ) (reads : Bool) (g : Function) → IsWritten c b k tags origins
-        → slice_get (written_file k T limits room).functions f ≡ Some g
-        → prototype_text (names_in c k) f reads
-        ≡ head_text (names_in c k) f reads g.result g.parameters ++ (codes ";" ++ 10 ∷ []) }
-{}
-
 /// Where a function of a file only reads the struct, so do those that it calls, so that a struct
 /// that is const goes to no function that may change it; and a call of it leaves the struct as it
 /// was, with so much fuel, for these arguments and from that struct.
@@ -71,20 +59,20 @@ pub fn functions_that_only_read_leave_the_struct()
         → only_reads changing f ≡ true → call file int k f xs s ≡ Returns after x → after ≡ s }
 {}
 
-/// The source for code of a chart is one, but for the number of calls with which it compares that
-/// of the header: which functions are written, and which of them may change the struct, is told by
-/// the code.
+/// The source for code of a chart is one for the functions of its file, but for the number of calls
+/// with which it compares that of the header: which functions are written, and which of them may
+/// change the struct, is told by the functions.
 pub fn the_source_for_code_is_one()
     ensures { (c : Chart) (T : Tests) (limits : Bounds) (room : ℕ) (k : Code) (origins : List ℕ)
         (tags : List Tag) (identity : Identity) (facts facts' : SourceFacts)
-        (written written' changing changing' : List Bool)
-        → AreFacts (names_in c k) (written_file k T limits room).functions written facts
-        → AreFacts (names_in c k) (written_file k T limits room).functions written' facts'
-        → AreChanging (names_in c k) (written_file k T limits room).functions changing
-        → AreChanging (names_in c k) (written_file k T limits room).functions changing'
+        (functions : List Function) (written written' changing changing' : List Bool)
+        → AreFacts (names_in c k) functions written facts
+        → AreFacts (names_in c k) functions written' facts'
+        → AreChanging (names_in c k) functions changing
+        → AreChanging (names_in c k) functions changing'
         → calls_number facts.calls ≡ calls_number facts'.calls
-        → source_for c T limits room k origins tags facts written changing identity
-        ≡ source_for c T limits room k origins tags facts' written' changing' identity }
+        → source_for c T limits room k origins tags facts functions written changing identity
+        ≡ source_for c T limits room k origins tags facts' functions written' changing' identity }
 {}
 
 /// The words for what a copy of a procedure is for are one line in which no comment of C ends,

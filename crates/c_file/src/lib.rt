@@ -22,7 +22,7 @@ mod written;
 
 pub use file::{CFiles, files};
 pub use laws::{
-    declarations_of_the_file_are_heads, functions_that_only_read_leave_the_struct,
-    the_smaller_code_of_a_chart_is_one, the_source_for_code_is_one,
-    the_struct_of_the_header_is_that_of_the_source, words_for_copies_can_stand_in_a_comment,
+    functions_that_only_read_leave_the_struct, the_smaller_code_of_a_chart_is_one,
+    the_source_for_code_is_one, the_struct_of_the_header_is_that_of_the_source,
+    words_for_copies_can_stand_in_a_comment,
 };

@@ -1,18 +1,14 @@
 //! What both files of a chart are made from.
 use crate::said::Said;
 use c_expression_writer::FileShape;
-use c_loops::with_loop;
 use c_subset::Function;
 use c_text::Labels;
-use c_writer::function;
 use code_language::Code;
-use flow_base::Memory;
-use std::alloc::Global;
 
 /// How many functions there are besides those of procedures.
 const OTHER_FUNCTIONS: u32 = 11;
 
-/// What both files of a chart are made from. Functions are made one at a time.
+/// What both files of a chart are made from.
 #[derive(Drop)]
 pub(crate) struct Made<'a> {
     /// The name of the chart.
@@ -25,10 +21,12 @@ pub(crate) struct Made<'a> {
     pub shape: FileShape<'a>,
     /// The code.
     pub code: &'a Code,
+    /// The functions, by number.
+    pub functions: Vec<Function>,
 }
 
 impl Made<'_> {
-    ghost use Rattle.std.specs.Prelude.{◌≡◌, ◌<◌, IfOk, Some, length, slice_get};
+    ghost use Rattle.std.specs.Prelude.{◌≡◌, ◌<◌, Some, length, slice_get};
     ghost use Rattle.c_subset.specs.Trees as c;
     ghost use Rattle.c_subset.specs.Lines.{IsFunction};
     ghost use Rattle.c_file.specs.Made.{IsMade, functions_of};
@@ -41,18 +39,13 @@ impl Made<'_> {
         self.shape.procs + OTHER_FUNCTIONS
     }
 
-    /// The function of that number. One of a procedure is a loop where it may be.
-    #[tactic(auto, unfolding(crate::specs::Made::functions_of))]
-    pub fn function(&self, alloc: Global, number: u32) -> Result<Function, Memory>
+    /// The function of that number.
+    pub fn function(&self, number: u32) -> &Function
         requires is { IsMade self.now }
         requires within { number < length (functions_of self.now) }
-        ensures { IfOk result (λ function. (g : c.Function) →
-            slice_get (functions_of self.now) number ≡ Some g → IsFunction function g) }
+        ensures { (g : c.Function) → slice_get (functions_of self.now) number ≡ Some g →
+            IsFunction result.now g }
     {
-        let written = function(alloc, &self.shape, self.code, number)?;
-        if number >= self.shape.procs {
-            return Ok(written);
-        }
-        with_loop(alloc, number, written)
+        &self.functions[number as usize]
     }
 }

@@ -191,15 +191,22 @@ fn print_declaration(
     requires is { IsMade made.now }
     requires uses { AreUses (labels_of made.now.labels) (functions_of made.now) uses.now }
     requires within { number < length (functions_of made.now) }
-    ensures { OnOk result (string_bytes out.new ≡ string_bytes out.old
-        ++ spec.declared_text (labels_of made.now.labels) uses.now.reached.items
-        uses.now.changing.items number) }
+    ensures { OnOk result ((g : c.Function) → slice_get (functions_of made.now) number ≡ Some g
+        → string_bytes out.new ≡ string_bytes out.old ++ spec.declared_text
+        (labels_of made.now.labels) uses.now.reached.items uses.now.changing.items number g) }
 {
-    if is_written(made, uses, number) && !is_outside(function_kind(&made.labels, number)) {
-        print_prototype(out, &made.labels, number, only_reads(made, uses, number))
-    } else {
-        Ok(())
+    if !is_written(made, uses, number) || is_outside(function_kind(&made.labels, number)) {
+        return Ok(());
     }
+    let function = made.function(number);
+    print_prototype(
+        out,
+        &made.labels,
+        number,
+        only_reads(made, uses, number),
+        function.result,
+        function.parameters.items(),
+    )
 }
 
 /// Appends the declarations of the functions that are written and aren't called from outside.
@@ -216,7 +223,7 @@ fn print_declarations(out: &mut String, made: &Made<'_>, uses: &Uses) -> Result<
     Ok(())
 }
 
-/// Appends a function under its comment: it is made, and dropped.
+/// Appends a function under its comment.
 fn print_commented(
     alloc: Global,
     out: &mut String,
@@ -231,12 +238,12 @@ fn print_commented(
         → string_bytes out.new ≡ string_bytes out.old ++ spec.commented_text
         (labels_of made.now.labels) (said_of made.now.said) uses.now.changing.items number g) }
 {
-    let function = made.function(alloc, number)?;
     let Ok(()) = print_comment(out, &made.said, number) else {
         return Err(Memory);
     };
     let reads = only_reads(made, uses, number);
-    match print_function(alloc, out, &made.labels, number, reads, &function) {
+    let function = made.function(number);
+    match print_function(alloc, out, &made.labels, number, reads, function) {
         Ok(()) => Ok(()),
         Err(_) => Err(Memory),
     }
@@ -330,8 +337,7 @@ fn print_source(
     Ok(())
 }
 
-/// A source of this making, for a header that has this number of calls. Each function is made once
-/// more, printed and dropped.
+/// A source of this making, for a header that has this number of calls.
 pub(crate) fn printed_source(
     alloc: Global,
     made: &Made<'_>,

@@ -10,7 +10,8 @@ use Rattle.actions.specs.declared.names.EventKind.TheVariants as event_kinds
 use Rattle.c_names.specs.Stems.{guard_of_chart, name_of_chart}
 use Rattle.c_functions.specs.Layout.{on_c}
 use Rattle.c_functions.specs.Plans.{Shape, layout, used_field, fault_number, refused_number, init_function}
-use Rattle.c_functions.specs.Plans.{start_function, react_function}
+use Rattle.c_functions.specs.Plans.{start_function, react_function, word}
+use Rattle.c_subset.specs.declared.trees.CType.TheVariants.{Truth}
 use Rattle.c_text.specs.declared.kinds.Kind.TheVariants.{Outside}
 use Rattle.c_text.specs.Labels.{Labels, labels_for}
 use Rattle.c_text.specs.Expressions.{bare}
@@ -205,21 +206,21 @@ struct_text chart L K =
 unfoldable pub init_text : Labels → Shape → List ℕ
 init_text L K =
     codes "/* Stores the first values of all data; nothing is active. Inputs that are stored after it hold\n"
-    ++ (codes "   at the start. */\n" ++ prototype_text L (init_function K) false)
+    ++ (codes "   at the start. */\n" ++ prototype_text L (init_function K) false Truth [])
 
 -- the call that begins a run
 unfoldable pub start_text : List ℕ → Labels → Shape → List ℕ
 start_text chart L K =
     named_text (codes "\n/* Begins the run: enters the chart. Returns false, too, and changes nothing, unless ") chart
     (codes "init\n   was called since the last run began. */\n")
-    ++ prototype_text L (start_function K) false
+    ++ prototype_text L (start_function K) false Truth []
 
 -- the call for an event
 unfoldable pub react_text : List ℕ → Labels → Shape → List ℕ
 react_text chart L K =
     named_text (codes "\n/* Takes an event: ") chart (codes "TICK or one of the input events; any other number is a fault.\n")
     ++ (codes "   Returns false, too, and changes nothing, before the start and after a fault. */\n"
-    ++ (prototype_text L (react_function K) false ++ codes "\n"))
+    ++ (prototype_text L (react_function K) false Truth (word ∷ []) ++ codes "\n"))
 
 -- ---- the whole
 

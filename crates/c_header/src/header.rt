@@ -11,7 +11,9 @@ use crate::numbers::{print_bounds, print_calls, print_events, print_faults};
 use crate::states::{About, print_states};
 use crate::words::print_named;
 use c_expression_writer::FileShape;
+use c_functions::WORD;
 use c_names::print_guard_name;
+use c_subset::CType;
 use c_text::{Labels, print_prototype};
 use std::alloc::{AllocError, Global};
 
@@ -235,7 +237,7 @@ fn print_init(
         "/* Stores the first values of all data; nothing is active. Inputs that are stored after it hold\n",
     )?;
     out.push_str("   at the start. */\n")?;
-    print_prototype(out, labels, shape.init_function(), false)
+    print_prototype(out, labels, shape.init_function(), false, CType::Truth, &[])
 }
 
 /// Appends the call that begins a run.
@@ -255,7 +257,14 @@ fn print_start(
         chart,
         "init\n   was called since the last run began. */\n",
     )?;
-    print_prototype(out, labels, shape.start_function(), false)
+    print_prototype(
+        out,
+        labels,
+        shape.start_function(),
+        false,
+        CType::Truth,
+        &[],
+    )
 }
 
 /// Appends the call for an event.
@@ -278,6 +287,13 @@ fn print_react(
     out.push_str(
         "   Returns false, too, and changes nothing, before the start and after a fault. */\n",
     )?;
-    print_prototype(out, labels, shape.react_function(), false)?;
+    print_prototype(
+        out,
+        labels,
+        shape.react_function(),
+        false,
+        CType::Truth,
+        &[WORD],
+    )?;
     out.push_str("\n")
 }

@@ -10,4 +10,3 @@ pub mod FunctionNames
 pub mod KeywordLemmas
 pub mod HiddenNames
 pub mod TypeLemmas
-pub mod HeadLemmas

@@ -1,13 +1,11 @@
 -- How functions are written.
 use Rattle.std.specs.Prelude.{ℕ, ◌+◌, ◌==◌, ◌&&◌, ◌||◌, Bool, true, false, not, List, [], ◌∷◌, ◌++◌, length, drop}
-use Rattle.std.specs.Prelude.{replicate, codes, if◌then◌else◌, Option, Some, None}
+use Rattle.std.specs.Prelude.{codes, if◌then◌else◌, Option, Some, None}
 use Rattle.std.specs.List.{list_any}
 use Rattle.c_subset.specs.Trees.{CExpr, Const, Field, Element, Local, Cast, Minus, Bang, Calc, Divide, Bits, Compare}
 use Rattle.c_subset.specs.Trees.{Both, Either, Choose}
 use Rattle.c_subset.specs.declared.trees.Case.{Case}
-use Rattle.c_subset.specs.declared.trees.Width.TheVariants.{W32}
 use Rattle.c_subset.specs.declared.trees.CType.{CType}
-use Rattle.c_subset.specs.declared.trees.CType.TheVariants.{Signed, Unsigned, Truth}
 use Rattle.c_subset.specs.Running.{same_type}
 use Rattle.c_subset.specs.Lines.{Line, Set, Store, StoreAt, Call, Select, If, Else, While, Close, Return}
 use Rattle.c_names.specs.Stems.{name_of_chart}
@@ -19,23 +17,6 @@ use Rattle.c_text.specs.Types.{type_text}
 use Rattle.c_text.specs.Statements.{has_cases, comma, lines_text}
 
 -- ---- heads
-
--- the result of a function, by what it is for
-abbrev pub result_type : Kind → CType
-result_type Procedure = Unsigned W32
-result_type Home = Truth
-result_type Noted = Unsigned W32
-result_type (Floor w) = Signed w
-result_type Outside = Truth
-
--- the parameters of a function: five words of a procedure, a state, the same five and a procedure, two numbers, the
--- event of a reaction, none of what else is called from outside
-abbrev pub parameter_types : Labels → ℕ → Kind → List CType
-parameter_types L f Procedure = replicate 5 (Unsigned W32)
-parameter_types L f Home = replicate 1 (Unsigned W32)
-parameter_types L f Noted = replicate 6 (Unsigned W32)
-parameter_types L f (Floor w) = replicate 2 (Signed w)
-parameter_types L f Outside = replicate (if f == L.procs + 10 then 1 else 0) (Unsigned W32)
 
 -- all but what is called from outside is static
 abbrev pub linkage_text : Kind → List ℕ
@@ -80,10 +61,8 @@ head_text L f only_reads result ts =
     ++ list_text L (function_kind L f) only_reads ts)))
 
 -- the declaration of the function with that number, which only reads the struct or may change it
-abbrev pub prototype_text : Labels → ℕ → Bool → List ℕ
-prototype_text L f only_reads =
-    head_text L f only_reads (result_type (function_kind L f)) (parameter_types L f (function_kind L f))
-    ++ (codes ";" ++ 10 ∷ [])
+abbrev pub prototype_text : Labels → ℕ → Bool → CType → List CType → List ℕ
+prototype_text L f only_reads result ts = head_text L f only_reads result ts ++ (codes ";" ++ 10 ∷ [])
 
 -- ---- the locals that are declared
 

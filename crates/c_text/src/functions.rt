@@ -13,21 +13,9 @@ use crate::locals::{LocalName, print_local_label};
 use crate::reading::{any_line_reads, any_line_uses_struct, has_cases, is_same_local};
 use crate::statements::{comma, local_of, print_lines};
 use crate::types::print_type;
-use c_functions::WORD;
 use c_names::print_chart_name;
 use c_subset::{CType, Function, Line};
 use std::alloc::{AllocError, Global};
-
-/// The type of what a function gives.
-fn result_type(kind: Kind) -> CType
-    ensures { result ≡ spec.result_type kind }
-{
-    match kind {
-        Kind::Procedure | Kind::Noted => WORD,
-        Kind::Home | Kind::Outside => CType::Truth,
-        Kind::Floor(width) => CType::Signed(width),
-    }
-}
 
 /// What stands before the type of a function.
 fn linkage_word(kind: Kind) -> &'static str
@@ -39,57 +27,20 @@ fn linkage_word(kind: Kind) -> &'static str
     }
 }
 
-/// Appends the declaration of a function, by its number, with a newline. It only reads the struct, or
-/// may change it. This project's choice.
+/// Appends the declaration of the function with that number, which has this result and these
+/// parameters, with a newline. It only reads the struct, or may change it. This project's choice.
 pub fn print_prototype(
     out: &mut String,
     labels: &Labels<'_>,
     number: u32,
     only_reads: bool,
-) -> Result<(), AllocError>
-    ensures { OnOk result (string_bytes out.new ≡ string_bytes out.old
-        ++ spec.prototype_text (labels_of labels.now) number only_reads) }
-{
-    let kind = function_kind(labels, number);
-    match kind {
-        Kind::Procedure => print_declared(out, labels, number, kind, only_reads, &[WORD; 5]),
-        Kind::Home => print_declared(out, labels, number, kind, only_reads, &[WORD]),
-        Kind::Noted => print_declared(out, labels, number, kind, only_reads, &[WORD; 6]),
-        Kind::Floor(width) => {
-            let of = CType::Signed(width);
-            print_declared(out, labels, number, kind, only_reads, &[of; 2])
-        }
-        Kind::Outside => {
-            if u64::from(number) == u64::from(labels.procs) + 10 {
-                print_declared(out, labels, number, kind, only_reads, &[WORD])
-            } else {
-                print_declared(out, labels, number, kind, only_reads, &[])
-            }
-        }
-    }
-}
-
-/// Appends the declaration of a function of that kind with these parameters.
-fn print_declared(
-    out: &mut String,
-    labels: &Labels<'_>,
-    number: u32,
-    kind: Kind,
-    only_reads: bool,
+    gives: CType,
     parameters: &[CType],
 ) -> Result<(), AllocError>
     ensures { OnOk result (string_bytes out.new ≡ string_bytes out.old
-        ++ (spec.head_text (labels_of labels.now) number only_reads (spec.result_type kind)
-        parameters.now ++ (codes ";" ++ 10 ∷ []))) }
+        ++ spec.prototype_text (labels_of labels.now) number only_reads gives parameters.now) }
 {
-    print_head(
-        out,
-        labels,
-        number,
-        only_reads,
-        result_type(kind),
-        parameters,
-    )?;
+    print_head(out, labels, number, only_reads, gives, parameters)?;
     out.push_str(";\n")
 }
 

@@ -1,17 +1,13 @@
 //! What names promise, for all charts at once.
-ghost use Rattle.std.specs.Prelude.{◌≡◌, ◌≢◌, ◌<◌, ◌^◌, ◌++◌, ℕ, List, [], map, length, Bool};
-ghost use Rattle.std.specs.Prelude.{false, ◌∷◌, Some, codes, slice_get, slice_index_or};
+ghost use Rattle.std.specs.Prelude.{◌≡◌, ◌≢◌, ◌<◌, ◌^◌, ◌++◌, ℕ, List, [], map, length, false};
+ghost use Rattle.std.specs.Prelude.{codes, slice_index_or};
 ghost use Rattle.actions.specs.declared.names.Var.{Var};
 ghost use Rattle.c_subset.specs.declared.trees.CType.{CType};
 ghost use Rattle.c_subset.specs.Meaning.{CValue};
-ghost use Rattle.c_subset.specs.Trees.{Function};
-ghost use Rattle.c_functions.specs.Statements as plan;
 ghost use Rattle.c_functions.specs.Plans.{Shape};
-ghost use Rattle.c_functions.specs.Files.{functions_c};
-ghost use Rattle.c_functions.specs.Starts.{first_values, init_c, start_c, react_c};
+ghost use Rattle.c_functions.specs.Starts.{first_values};
 ghost use Rattle.c_text.specs.declared.kinds.Kind.{Kind};
 ghost use Rattle.c_text.specs.Distinct.{AreDistinct, is_keyword};
-ghost use Rattle.c_text.specs.Functions.{head_text, prototype_text};
 ghost use Rattle.c_text.specs.Labels.{Labels, row_labels, field_labels, function_labels};
 ghost use Rattle.c_text.specs.Labels.{local_label, labels_for, field_types};
 
@@ -50,15 +46,4 @@ pub fn fields_are_those_of_the_struct()
         → field_types (labels_for chart K.names K.tree K.procs)
         ≡ map (λ (x : CValue). x.type) (first_values K) }
     ensures names { (L : Labels) → length (field_labels L) ≡ length (field_types L) }
-{}
-
-/// The declaration of each function of a file, of which it is told whether it only reads the struct,
-/// is the head of that function, and a semicolon.
-pub fn declarations_are_heads()
-    ensures { (chart : List ℕ) (K : Shape) (bodies : ℕ → plan.Block) (p q f : ℕ) (only_reads : Bool)
-        (g : Function)
-        → slice_get (functions_c K bodies ++ init_c K ∷ start_c K p ∷ react_c K q ∷ []) f ≡ Some g
-        → prototype_text (labels_for chart K.names K.tree K.procs) f only_reads
-        ≡ head_text (labels_for chart K.names K.tree K.procs) f only_reads g.result g.parameters
-        ++ (codes ";" ++ 10 ∷ []) }
 {}

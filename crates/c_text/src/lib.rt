@@ -5,7 +5,7 @@
 //! docs/C_SUBSET.md says the same in words. The public calls are `print_prototype` and
 //! `print_function`, and for a header `print_field_label`, `print_field_type`, `print_test`, `is_or`.
 //! The laws say that names are pairwise different and no keywords (`specs/Distinct.antt`), and that
-//! fields and declarations are those of the file of code.
+//! fields are those of the file of code.
 #![tactic(auto)]
 
 mod constants;
@@ -27,6 +27,6 @@ pub use functions::{print_function, print_prototype};
 pub use kinds::{Kind, function_kind, print_function_label};
 pub use labels::{Labels, is_or};
 pub use laws::{
-    declarations_are_heads, fields_are_those_of_the_struct, names_are_distinct,
-    no_local_hides_a_function, no_name_is_a_keyword,
+    fields_are_those_of_the_struct, names_are_distinct, no_local_hides_a_function,
+    no_name_is_a_keyword,
 };

@@ -1,4 +1,3 @@
-use Rattle.std.proofs.Common.{length}
 use Rattle.std.proofs.lemmas.Result.{IfOk-weaker}
 use Rattle.checked_chart.specs.Kept.{chart_of}
 use Rattle.code_language.specs.Code.{code_of}
@@ -6,8 +5,10 @@ use Rattle.c_functions.specs.Writer.{plans_of}
 use Rattle.c_functions.specs.Files.{shape_of}
 use Rattle.c_functions.specs.Starts.{file_of}
 use Rattle.c_expression_writer.specs.FileShapes.{tests_seen}
+use Rattle.c_runs.specs.Claims.{FileRunsAsRules}
+use Rattle.c_passes.specs.Standing.{StandsFor}
 use Rattle.c_file.specs.Files.{IsMadeFor}
-use Rattle.c_file.proofs.SourceLemmas.{facts_hold, may_change, header_is, same_lines, source_is}
+use Rattle.c_file.proofs.SourceLemmas.{file_made, passed, facts_hold, may_change, header_is, same_lines, source_is}
 use Rattle.c_file.proofs.file.files.Goals as goal
 
 pub returns : goal.returns
@@ -16,6 +17,13 @@ returns c =
     let is = c.in_ok-written.ensures in
     let made : IsMadeFor (chart_of c.args.chart.now) w c.in_ok-made.made = c.in_ok-made.ensures in
     let identity = c.args.identity in
+    let K = shape_of (code_of w.code) (tests_seen w.tests) w.limits w.outputs in
+    let file = file_of (code_of w.code) (tests_seen w.tests) w.limits w.outputs (plans_of (code_of w.code)) in
+    let standing : StandsFor K file (file_made made) =
+    c.passed_files_stand_for_it.ensures.stand K file (file_made made) (passed made) in
+    let rules_run : FileRunsAsRules (chart_of c.args.chart.now) identity.bounds K file =
+    c.files_of_code_that_serves_run_as_charts.ensures (chart_of c.args.chart.now) identity.bounds (code_of w.code)
+    (tests_seen w.tests) w.limits w.outputs c.shape.ensures.valid is.fits is.serves is.after in
     IfOk-weaker c.printed_files.result _ _
     (λ files printed. record {
       code = code_of w.code;
@@ -24,12 +32,14 @@ returns c =
       tests = tests_seen w.tests;
       limits = w.limits;
       room = w.outputs;
+      file = file_made made;
       written = printed.written;
       changing = printed.changing;
       facts = printed.facts;
       is_written = is.is_written;
       limits_are = is.limits_are;
       sizes = is.sizes;
+      passed = passed made;
       hold = facts_hold made printed.written printed.facts printed.hold;
       may_change = may_change made printed.changing printed.may_change;
       header_is = same_lines _ _ _ (header_is made printed.facts identity) printed.header_is;
@@ -37,19 +47,7 @@ returns c =
           same_lines _ _ _ (source_is made printed.written printed.changing printed.facts identity) printed.source_is;
       runs = record {
         runs = λ int s given events moments small has values all rules.
-            c.loops_run_as_calls.ensures.runs (length (code_of w.code).procedures.procs)
-            (shape_of (code_of w.code) (tests_seen w.tests) w.limits w.outputs)
-            (file_of (code_of w.code) (tests_seen w.tests) w.limits w.outputs (plans_of (code_of w.code)))
-            int s given events moments
-            ((c.files_of_code_that_serves_run_as_charts.ensures (chart_of c.args.chart.now) identity.bounds
-            (code_of w.code) (tests_seen w.tests) w.limits w.outputs c.shape.ensures.valid
-            is.fits is.serves is.after).runs int s given events moments small has values all rules);
-        refuses = λ int small.
-            c.loops_run_as_calls.ensures.refuses (length (code_of w.code).procedures.procs)
-            (shape_of (code_of w.code) (tests_seen w.tests) w.limits w.outputs)
-            (file_of (code_of w.code) (tests_seen w.tests) w.limits w.outputs (plans_of (code_of w.code))) int
-            ((c.files_of_code_that_serves_run_as_charts.ensures (chart_of c.args.chart.now) identity.bounds
-            (code_of w.code) (tests_seen w.tests) w.limits w.outputs c.shape.ensures.valid
-            is.fits is.serves is.after).refuses int small);
+            standing.runs int s given events moments (rules_run.runs int s given events moments small has values all rules);
+        refuses = λ int small. standing.refuses int (rules_run.refuses int small);
       };
     }) c.printed_files.ensures

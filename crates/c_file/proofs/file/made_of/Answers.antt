@@ -31,6 +31,7 @@ returns c =
         shape =
             own_shape (code_of w.code) (tests_seen w.tests) w.limits w.outputs
             (shape_seen c.in_ok-shape.shape) c.in_ok-shape.ensures.shape;
+        passed = c.in_ok-functions.ensures;
       };
       code = refl;
       shape = c.in_ok-shape.ensures.shape;

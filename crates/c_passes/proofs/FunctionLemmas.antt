@@ -1,0 +1,227 @@
+-- The functions of the code are those of the file.
+use Rattle.std.proofs.Common.{◌≡◌, ◌+◌, ◌<◌, ◌≤◌, ℕ, zero, suc, List, [], ◌∷◌, ◌++◌, length, map, refl, sym, ap, ◌∙◌}
+use Rattle.std.proofs.Common.{arith, subst, slice_get, Some, below_more}
+use Rattle.std.proofs.lemmas.List.{length-append}
+use Rattle.std.specs.List.{range_with_len}
+use Rattle.flow_base.specs.declared.bounds.Bounds.{Bounds}
+use Rattle.code_language.specs.Code.{Code}
+use Rattle.flow_base.specs.Lists.{items_of}
+use Rattle.c_subset.specs.declared.trees.CType.{CType}
+use Rattle.c_subset.specs.Trees.{Block, Function, File}
+use Rattle.c_subset.specs.Lines.{IsFunction, lines_in}
+use Rattle.c_trees.specs.Reading.{statements_of}
+use Rattle.c_trees.proofs.ReadLemmas.{read-whole}
+use Rattle.c_subset.specs.declared.trees.Function as declared
+use Rattle.c_functions.specs.Statements as plan
+use Rattle.c_functions.specs.Writer.{plans_of}
+use Rattle.c_functions.specs.Plans.{Shape, Tests}
+use Rattle.c_functions.specs.Files.{shape_of, functions_c, procedure_c}
+use Rattle.c_functions.specs.Starts.{file_of}
+use Rattle.c_functions.proofs.Functions.{range-length}
+use Rattle.c_loops.specs.Loops.{looped, loops_from}
+use Rattle.c_bare.specs.Bare.{AreFunctions}
+use Rattle.c_writer.specs.Functions.{IsAt, IsShapeOf}
+use Rattle.c_passes.specs.Passed.{function_of, functions_in, written_file, looped_file, ArePassed, AsItIs, Looped}
+use Rattle.c_passes.proofs.HeadLemmas.{loops_count}
+
+-- ---- how many there are
+
+-- those of procedures stand first, then eight others, then those that are called from outside
+pub first_count : (k : Code) (T : Tests) (b : Bounds) (room : ℕ) (bodies : ℕ → plan.Block)
+    → length (functions_c (shape_of k T b room) bodies) ≡ length k.procedures.procs + 8
+unfolding functions_c
+first_count k T b room bodies =
+    length-append
+    (map (λ q. procedure_c (shape_of k T b room) (bodies q)) (range_with_len 0 (length k.procedures.procs))) _
+    ∙ ap (λ (n : ℕ). n + 8)
+    (range-length (λ q. procedure_c (shape_of k T b room) (bodies q)) 0 (length k.procedures.procs))
+
+-- there are eleven after those of procedures
+file_count : (k : Code) (T : Tests) (b : Bounds) (room : ℕ) (bodies : ℕ → plan.Block)
+    → length (file_of k T b room bodies).functions ≡ length k.procedures.procs + 11
+file_count k T b room bodies =
+    let all : length (file_of k T b room bodies).functions ≡ length (functions_c (shape_of k T b room) bodies) + 3 =
+    length-append (functions_c (shape_of k T b room) bodies) _ in
+    omega (arith, all, first_count k T b room bodies)
+
+pub functions_count : (K : Shape) (k : Code) → IsShapeOf K k → K.procs + 11 ≡ length (looped_file K k).functions
+functions_count K k is =
+    ap (λ (H : Shape). H.procs + 11) is
+    ∙ sym (loops_count (written_file K k).functions 0 (length k.procedures.procs)
+    ∙ file_count k K.tests K.bounds K.outputs (plans_of k))
+
+-- ---- loops
+
+-- there is one function at a place
+one_function : (functions : List Function) (n : ℕ) (f : declared.Function) (g : Function)
+    → IsAt functions n f → slice_get functions n ≡ Some g → IsFunction f g
+one_function functions n f g at there = subst (IsFunction f) (some_is (sym at.there ∙ there)) at.is where
+  some_is : Some at.function ≡ Some g → at.function ≡ g
+  some_is e = cc
+
+-- the first one
+loop_first : (p m : ℕ) (f g : Function) → p ≡ m → Some f ≡ Some g → Some (looped p f) ≡ Some (looped m g)
+loop_first p m f g same there = cc
+
+-- one of the first so many functions, as a loop where it may be one
+loop_at : (fs : List Function) (p n i m : ℕ) (g : Function) → m ≡ p + i → i < n → slice_get fs i ≡ Some g
+    → slice_get (loops_from p n fs) i ≡ Some (looped m g)
+loop_at fs p zero i m g e within there = absurd (omega (arith, within))
+loop_at [] p (suc n) zero m g e within there = absurd cc
+loop_at [] p (suc n) (suc i) m g e within there = absurd cc
+loop_at (f ∷ fs) p (suc n) zero m g e within there =
+    loop_first p m f g (omega (arith, e)) there
+loop_at (f ∷ fs) p (suc n) (suc i) m g e within there =
+    loop_at fs (suc p) n i m g (omega (arith, e)) (omega (arith, within)) there
+
+-- a function after these is as it was
+past_loops : (fs : List Function) (p n i : ℕ) → n ≤ i → slice_get (loops_from p n fs) i ≡ slice_get fs i
+past_loops fs p zero i past = refl
+past_loops [] p (suc n) i past = refl
+past_loops (f ∷ fs) p (suc n) zero past = absurd (omega (arith, past))
+past_loops (f ∷ fs) p (suc n) (suc i) past = past_loops fs (suc p) n i (omega (arith, past))
+
+module _ (K : Shape) (k : Code) (is : IsShapeOf K k) (i : ℕ) (f : declared.Function)
+    (at : IsAt (written_file K k).functions i f) where
+  procs_are : K.procs ≡ length k.procedures.procs
+  procs_are = ap (λ (H : Shape). H.procs) is
+
+  -- a function after those of procedures is that of the file
+  pub plain_is : K.procs ≤ i → (g : Function) → slice_get (looped_file K k).functions i ≡ Some g → IsFunction f g
+  plain_is past g there =
+      one_function (written_file K k).functions i f g at
+      (sym (past_loops (written_file K k).functions 0 (length k.procedures.procs) i (omega (arith, past, procs_are)))
+      ∙ there)
+
+  -- so is one of a procedure that was made a loop where it may be one
+  pub loop_is : (made : declared.Function) → i < K.procs
+      → ((g : Function) → IsFunction f g → IsFunction made (looped i g))
+      → (g : Function) → slice_get (looped_file K k).functions i ≡ Some g → IsFunction made g
+  loop_is made within makes g there =
+      one_function (looped_file K k).functions i made g
+      (record {
+        function = looped i at.function;
+        there =
+            loop_at (written_file K k).functions 0 (length k.procedures.procs) i i at.function (omega arith)
+            (omega (arith, within, procs_are)) at.there;
+        is = makes at.function at.is;
+      }) there
+
+-- ---- one after the other
+
+-- the first so many functions are made
+pub record AreSoFar (fs : List declared.Function) (gs : List Function) (n : ℕ) : Type 0 where
+  pub count : length fs ≡ n
+  pub each : (i : ℕ) → i < n → (f : declared.Function) → slice_get fs i ≡ Some f → (g : Function)
+      → slice_get gs i ≡ Some g → IsFunction f g
+
+pub none_so_far : (fs : List declared.Function) (gs : List Function) → fs ≡ [] → AreSoFar fs gs 0
+none_so_far fs gs none = record {
+  count = ap length none;
+  each = λ i lt. absurd (omega (arith, lt));
+}
+
+-- what stands at the end, and before it
+at_end : {A : Type 0} (xs : List A) (x y : A) (i : ℕ) → i ≡ length xs → slice_get (xs ++ x ∷ []) i ≡ Some y → x ≡ y
+at_end [] x y zero e there = cc
+at_end [] x y (suc i) e there = absurd (omega (arith, e))
+at_end (z ∷ xs) x y zero e there = absurd (omega (arith, e))
+at_end (z ∷ xs) x y (suc i) e there = at_end xs x y i (omega (arith, e)) there
+
+before_end : {A : Type 0} (xs : List A) (x : A) (i : ℕ) → i < length xs → slice_get (xs ++ x ∷ []) i ≡ slice_get xs i
+before_end [] x i lt = absurd (omega (arith, lt))
+before_end (z ∷ xs) x zero lt = refl
+before_end (z ∷ xs) x (suc i) lt = before_end xs x i (omega (arith, lt))
+
+pub one_more : (fs new : List declared.Function) (gs : List Function) (n : ℕ) (made : declared.Function)
+    → AreSoFar fs gs n → ((g : Function) → slice_get gs n ≡ Some g → IsFunction made g) → new ≡ fs ++ made ∷ []
+    → AreSoFar new gs (n + 1)
+one_more fs new gs n made so_far is new_is = record {
+  count = ap length new_is ∙ length-append fs (made ∷ []) ∙ ap (λ (m : ℕ). m + 1) so_far.count;
+  each =
+      below_more (λ (i : ℕ). (f : declared.Function) → slice_get new i ≡ Some f → (g : Function)
+      → slice_get gs i ≡ Some g → IsFunction f g) n
+      (λ i lt f there g at. so_far.each i lt f
+      (sym (before_end fs made i (omega (arith, lt, so_far.count)))
+      ∙ ap (λ (fs : List declared.Function). slice_get fs i) (sym new_is) ∙ there) g at)
+      (λ f there g at. subst (λ (h : declared.Function). IsFunction h g)
+      (at_end fs made f n (omega (arith, so_far.count))
+      (ap (λ (fs : List declared.Function). slice_get fs n) (sym new_is) ∙ there)) (is g at));
+}
+
+all_so_far : (fs : List declared.Function) (gs : List Function) (n : ℕ) → n ≡ length gs → AreSoFar fs gs n
+    → AreFunctions fs gs
+all_so_far fs gs n all so_far = record {
+  count = so_far.count ∙ all;
+  each =
+      λ i f g there at. so_far.each i (omega (arith, within fs i f there, so_far.count)) f there g at;
+} where
+  within : (fs : List declared.Function) (i : ℕ) (f : declared.Function) → slice_get fs i ≡ Some f → i < length fs
+  within [] zero f e = absurd cc
+  within [] (suc i) f e = absurd cc
+  within (x ∷ fs) zero f e = omega arith
+  within (x ∷ fs) (suc i) f e = omega (arith, within fs i f e)
+
+-- ---- as statements
+
+-- functions of the code as statements are those of the file
+same_function : (f : declared.Function) (g : Function) → IsFunction f g → function_of f ≡ g
+same_function f g is =
+    by f.result g.result is.result (items_of f.parameters) g.parameters is.parameters
+    (statements_of (lines_in (items_of f.lines))) g.body (ap statements_of is.lines ∙ read-whole g.body)
+  where
+    made : CType → List CType → Block → Function
+    made t ts a = record { result = t; parameters = ts; body = a }
+
+    by : (t u : CType) → t ≡ u → (ts us : List CType) → ts ≡ us → (a b : Block) → a ≡ b → made t ts a ≡ made u us b
+    by t u e ts us es a b ab =
+        ap (λ (x : CType). made x ts a) e ∙ ap (λ (x : List CType). made u x a) es ∙ ap (λ (x : Block). made u us x) ab
+
+pub functions_are : (fs : List declared.Function) (gs : List Function) → AreFunctions fs gs → functions_in fs ≡ gs
+functions_are [] [] are = refl
+functions_are [] (g ∷ gs) are = absurd (ends are.count) where
+  ends : 0 ≡ suc (length gs) → ⊥
+  ends e = absurd (omega (arith, e))
+functions_are (f ∷ fs) [] are = absurd (ends are.count) where
+  ends : suc (length fs) ≡ 0 → ⊥
+  ends e = absurd (omega (arith, e))
+functions_are (f ∷ fs) (g ∷ gs) are =
+    both (function_of f) g (same_function f g (are.each 0 f g refl refl)) (functions_in fs) gs
+    (functions_are fs gs (record {
+      count = less are.count;
+      each = λ i x y there at. are.each (suc i) x y there at;
+    }))
+  where
+    both : (x y : Function) → x ≡ y → (xs ys : List Function) → xs ≡ ys → x ∷ xs ≡ y ∷ ys
+    both x y e xs ys es = cc
+
+    less : suc (length fs) ≡ suc (length gs) → length fs ≡ length gs
+    less e = omega (arith, e)
+
+-- of each of them there is the function of the code
+pub function_is : (fs : List declared.Function) (gs : List Function) → AreFunctions fs gs → (i : ℕ)
+    → (f : declared.Function) → slice_get fs i ≡ Some f → (g : Function) → slice_get (functions_in fs) i ≡ Some g
+    → IsFunction f g
+function_is fs gs are i f there g at =
+    are.each i f g there (ap (λ (xs : List Function). slice_get xs i) (sym (functions_are fs gs are)) ∙ at)
+
+-- there are as many as in the file of the code
+pub passed_count : (K : Shape) (k : Code) → IsShapeOf K k → (fs : List declared.Function) (made : File)
+    → AreFunctions fs made.functions → length made.functions ≡ length (written_file K k).functions
+    → K.procs + 11 ≡ length (functions_in fs)
+passed_count K k is fs made are same =
+    ap (λ (H : Shape). H.procs + 11) is
+    ∙ sym (ap length (functions_are fs made.functions are) ∙ same
+    ∙ file_count k K.tests K.bounds K.outputs (plans_of k))
+
+-- ---- all of them
+
+-- when the last one is made they are those of a file that passes make
+pub looped_all : (K : Shape) (k : Code) (fs : List declared.Function) (n : ℕ)
+    → n ≡ length (looped_file K k).functions → AreSoFar fs (looped_file K k).functions n
+    → ArePassed K (written_file K k) fs
+looped_all K k fs n all so_far = record {
+  made = looped_file K k;
+  passed = Looped (length k.procedures.procs) (written_file K k) AsItIs;
+  are = all_so_far fs (looped_file K k).functions n all so_far;
+}

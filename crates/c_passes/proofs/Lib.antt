@@ -1,0 +1,3 @@
+pub mod FunctionLemmas
+pub mod HeadLemmas
+pub mod StandLemmas

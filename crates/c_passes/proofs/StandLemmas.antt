@@ -1,0 +1,125 @@
+-- A file that is made by passes stands for the one of which it is made.
+use Rattle.std.proofs.Common.{◌≡◌, ◌⊎◌, inl, inr, ◌+◌, ℕ, zero, suc, List, [], ◌∷◌, ◌++◌, length, Some, slice_get, refl, sym}
+use Rattle.std.proofs.Common.{ap, ◌∙◌, arith}
+use Rattle.flow_base.specs.declared.bounds.Bounds.{Bounds}
+use Rattle.code_language.specs.Code.{Code}
+use Rattle.c_subset.specs.declared.trees.CType.{CType}
+use Rattle.c_subset.specs.Trees.{Function, File}
+use Rattle.c_functions.specs.Files.{shape_of, functions_c}
+use Rattle.c_functions.specs.Plans.{Shape, Tests, init_function, start_function, react_function}
+use Rattle.c_functions.specs.Starts.{file_of, init_c, start_c, react_c}
+use Rattle.c_functions.specs.Writer.{plans_of}
+use Rattle.c_loops.proofs.Runs as loops
+use Rattle.c_bare.specs.Bare.{handed}
+use Rattle.c_bare.proofs.Law as bare
+use Rattle.c_passes.specs.Passed.{IsPassed, AsItIs, Looped, Bared}
+use Rattle.c_passes.specs.Standing.{HasOutside, StandsFor}
+use Rattle.c_passes.proofs.FunctionLemmas.{first_count}
+use Rattle.c_passes.proofs.HeadLemmas.{loops_count, loop_head, bare_count, bare_head, own_head, kept_head, fewer_head}
+
+same : (n f : ℕ) → n ≡ 0 + f → n ≡ f
+same n f e = omega (arith, e)
+
+pub stands : (K : Shape) (file made : File) → IsPassed K file made → StandsFor K file made
+stands K file _ AsItIs = record {
+  fields = refl;
+  rows = refl;
+  count = refl;
+  heads = own_head K file;
+  runs = λ int s given events moments run. run;
+  refuses = λ int refuses. refuses;
+}
+stands K file _ (Looped n made passed) =
+    let h : StandsFor K file made = stands K file made passed in record {
+      fields = h.fields;
+      rows = h.rows;
+      count = loops_count made.functions 0 n ∙ h.count;
+      heads =
+          λ f g there. let has = loop_head made.functions 0 n f g there in
+          kept_head K file f g has.function has.result has.parameters (h.heads f has.function has.there);
+      runs =
+          λ int s given events moments run. loops.runs-on n K made int s given events moments
+          (h.runs int s given events moments run);
+      refuses = λ int refuses. loops.refuses-on n K made int (h.refuses int refuses);
+    }
+stands K file _ (Bared flags made passed needless reaction) =
+    let h : StandsFor K file made = stands K file made passed in record {
+      fields = h.fields;
+      rows = h.rows;
+      count = bare_count flags made.functions 0 ∙ h.count;
+      heads =
+          λ f g there. let has = bare_head flags made.functions 0 f g there in
+          fewer_head K file flags f g has.function reaction has.result
+          (has.parameters ∙ ap (λ (n : ℕ). handed flags n has.function.parameters) (same has.number f has.is_number))
+          (h.heads f has.function has.there);
+      runs =
+          λ int s given events moments run. bare.runs-as flags made needless K reaction int s given events moments
+          (h.runs int s given events moments run);
+      refuses = λ int refuses. bare.refuses-as flags made needless K reaction int (h.refuses int refuses);
+    }
+
+-- ---- what is called from outside
+
+-- what stands behind others
+behind : {A : Type 0} (xs ys : List A) (i j : ℕ) → j ≡ length xs + i → slice_get (xs ++ ys) j ≡ slice_get ys i
+behind [] ys i j e = ap (λ (n : ℕ). slice_get ys n) (at e) where
+  at : j ≡ 0 + i → j ≡ i
+  at e = omega (arith, e)
+behind (x ∷ xs) ys i zero e = absurd (omega (arith, e))
+behind (x ∷ xs) ys i (suc j) e = behind xs ys i j (omega (arith, e))
+
+-- all or nothing of no parameters is nothing
+nothing : (ts us : List CType) → us ≡ [] → (ts ≡ us) ⊎ (ts ≡ []) → ts ≡ []
+nothing ts us none (inl same) = same ∙ none
+nothing ts us none (inr is) = is
+
+module _ (k : Code) (T : Tests) (b : Bounds) (room : ℕ) where
+  abbrev K : Shape
+  K = shape_of k T b room
+
+  abbrev file : File
+  file = file_of k T b room (plans_of k)
+
+  -- the functions that are called from outside stand behind the others
+  outside_there : (i j : ℕ) (f : Function) → j ≡ length k.procedures.procs + 8 + i
+      → slice_get (init_c K ∷ start_c K k.procedures.start ∷ react_c K k.procedures.react ∷ []) i ≡ Some f
+      → slice_get file.functions j ≡ Some f
+  outside_there i j f e there =
+      behind (functions_c K (plans_of k))
+      (init_c K ∷ start_c K k.procedures.start ∷ react_c K k.procedures.react ∷ []) i j
+      (e ∙ ap (λ (n : ℕ). n + i) (sym (first_count k T b room (plans_of k)))) ∙ there
+
+  -- there is one
+  one_of : (x y : Function) (j : ℕ) → slice_get file.functions j ≡ Some x → slice_get file.functions j ≡ Some y → x ≡ y
+  one_of x y j at there = some_is (sym at ∙ there) where
+    some_is : Some x ≡ Some y → x ≡ y
+    some_is e = cc
+
+  pub outside_kept : (made : File) → IsPassed K file made → HasOutside K made
+  outside_kept made passed =
+      let h : StandsFor K file made = stands K file made passed in record {
+        init =
+            λ g there. let head = h.heads (init_function K) g there in
+            let is : head.function ≡ init_c K =
+            one_of head.function (init_c K) (init_function K) head.there
+            (outside_there 0 (init_function K) (init_c K) (omega arith) refl) in (
+              head.result ∙ ap (λ (f : Function). f.result) is,
+              nothing g.parameters head.function.parameters (ap (λ (f : Function). f.parameters) is) head.parameters,
+            );
+        start =
+            λ g there. let head = h.heads (start_function K) g there in
+            let is : head.function ≡ start_c K k.procedures.start =
+            one_of head.function (start_c K k.procedures.start) (start_function K) head.there
+            (outside_there 1 (start_function K) (start_c K k.procedures.start) (omega arith) refl) in (
+              head.result ∙ ap (λ (f : Function). f.result) is,
+              nothing g.parameters head.function.parameters (ap (λ (f : Function). f.parameters) is) head.parameters,
+            );
+        react =
+            λ g there. let head = h.heads (react_function K) g there in
+            let is : head.function ≡ react_c K k.procedures.react =
+            one_of head.function (react_c K k.procedures.react) (react_function K) head.there
+            (outside_there 2 (react_function K) (react_c K k.procedures.react) (omega arith) refl) in (
+              head.result ∙ ap (λ (f : Function). f.result) is,
+              head.reaction refl ∙ ap (λ (f : Function). f.parameters) is,
+            );
+      }

@@ -1,5 +1,7 @@
 -- The functions of a file.
-use Rattle.std.proofs.Common.{◌≡◌, ◌+◌, ℕ, suc, List, [], ◌∷◌, length, Some, slice_get, refl, ap}
+use Rattle.std.proofs.Common.{◌≡◌, ◌+◌, ◌<◌, ℕ, suc, List, [], ◌∷◌, length, Some, slice_get, slice_index_or, refl, sym}
+use Rattle.std.proofs.Common.{ap, ◌∙◌, arith}
+use Rattle.std.proofs.lemmas.Option.{slice_get-get_or}
 use Rattle.code_language.specs.Code.{code_of}
 use Rattle.c_subset.specs.Trees.{Function, End}
 use Rattle.c_subset.specs.Lines.{IsFunction}
@@ -25,13 +27,6 @@ functions_count made is =
     (stands (shape_seen made.shape) (written_file (shape_seen made.shape) (code_of made.code.now)) is.passed.made
     is.passed.passed).count
 
--- there is a function of the code for each
-pub function_made : (made : Made) → IsMade made → (i : ℕ) → (f : declared.Function)
-    → slice_get made.functions.items i ≡ Some f → (g : Function) → slice_get (functions_of made) i ≡ Some g
-    → IsFunction f g
-unfolding functions_of
-function_made made is = function_is made.functions.items is.passed.made.functions is.passed.are
-
 -- as many
 pub functions_made : (made : Made) → IsMade made → length made.functions.items ≡ length (functions_of made)
 unfolding functions_of
@@ -40,3 +35,13 @@ functions_made made is = sized made.functions.items
     sized : (fs : List declared.Function) → length fs ≡ length (functions_in fs)
     sized [] = refl
     sized (f ∷ fs) = ap suc (sized fs)
+
+-- there is a function of the code for each
+pub function_made : (made : Made) → IsMade made → (i : ℕ) (f d : declared.Function) → i < length (functions_of made)
+    → f ≡ slice_index_or made.functions.items i d → (g : Function) → slice_get (functions_of made) i ≡ Some g
+    → IsFunction f g
+unfolding functions_of
+function_made made is i f d within f_is g at =
+    function_is made.functions.items is.passed.made.functions is.passed.are i f
+    (slice_get-get_or made.functions.items i d (omega (arith, within, functions_made made is))
+    ∙ ap (λ (x : declared.Function). Some x) (sym f_is)) g at

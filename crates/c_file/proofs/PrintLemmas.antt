@@ -1,5 +1,12 @@
 -- Texts that are printed one after the other.
-use Rattle.std.proofs.Common.{◌≡◌, ℕ, List, [], ◌++◌, ap, ◌∙◌, append_assoc}
+use Rattle.std.proofs.Common.{◌≡◌, ℕ, Bool, List, [], ◌++◌, ap, ◌∙◌, append_assoc}
+use Rattle.flow_base.specs.Lists.{items_of}
+use Rattle.c_subset.specs.declared.trees.CType.{CType}
+use Rattle.c_subset.specs.declared.trees.Function as declared
+use Rattle.c_subset.specs.Lines.{IsFunction}
+use Rattle.c_subset.specs.Trees.{Function}
+use Rattle.c_text.specs.Functions.{prototype_text}
+use Rattle.c_text.specs.Labels.{Labels}
 
 -- two texts
 pub two_printed : (old first second now later : List ℕ)
@@ -36,3 +43,12 @@ six_printed old a b c d e f one two three four five six p q r s t u =
 pub of_same : {X : Type 0} (text : X → List ℕ) (x y : X) (old now : List ℕ) → now ≡ old ++ text x → x ≡ y
     → now ≡ old ++ text y
 of_same text x y old now is same = is ∙ ap (λ z. old ++ text z) same
+
+-- a declaration is that of the function of the file
+pub declared_as : (L : Labels) (f : ℕ) (r s : Bool) (h : declared.Function) (g : Function) (ts : List CType)
+    (old now : List ℕ) → r ≡ s → ts ≡ items_of h.parameters → IsFunction h g
+    → now ≡ old ++ prototype_text L f r h.result ts → now ≡ old ++ prototype_text L f s g.result g.parameters
+declared_as L f r s h g ts old now reads items is printed =
+    printed ∙ ap (λ (b : Bool). old ++ prototype_text L f b h.result ts) reads
+    ∙ ap (λ (t : CType). old ++ prototype_text L f s t ts) is.result
+    ∙ ap (λ (xs : List CType). old ++ prototype_text L f s g.result xs) (items ∙ is.parameters)

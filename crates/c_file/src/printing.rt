@@ -2,6 +2,7 @@
 ghost use Rattle.std.specs.Prelude.{◌≡◌, ◌<◌, ◌++◌, ◌&&◌, IfOk, OnOk, Some, false, length, map};
 ghost use Rattle.std.specs.Prelude.{slice_get, slice_index_or, string_bytes};
 ghost use Rattle.c_subset.specs.Trees as c;
+ghost use Rattle.c_text.specs.Functions.{prototype_text};
 ghost use Rattle.c_text.specs.Labels.{labels_of};
 ghost use Rattle.c_file.specs.Changing.{only_reads};
 ghost use Rattle.c_file.specs.Comments.{said_of};
@@ -180,6 +181,35 @@ fn print_wide(out: &mut String, chart: &str, wide: bool) -> Result<(), AllocErro
     Ok(())
 }
 
+/// Appends the declaration of a function.
+fn print_declared(
+    out: &mut String,
+    made: &Made<'_>,
+    uses: &Uses,
+    number: u32,
+) -> Result<(), AllocError>
+    requires is { IsMade made.now }
+    requires uses { AreUses (labels_of made.now.labels) (functions_of made.now) uses.now }
+    requires within { number < length (functions_of made.now) }
+    ensures { OnOk result ((g : c.Function) → slice_get (functions_of made.now) number ≡ Some g
+        → string_bytes out.new ≡ string_bytes out.old ++ prototype_text
+        (labels_of made.now.labels) number (only_reads uses.now.changing.items number) g.result
+        g.parameters) }
+{
+    let reads = only_reads(made, uses, number);
+    let function = made.function(number);
+    let parameters = function.parameters.items();
+    print_prototype(
+        out,
+        &made.labels,
+        number,
+        reads,
+        function.result,
+        parameters,
+    )?;
+    Ok(())
+}
+
 /// Appends the declaration of a function that is written and isn't called from outside.
 #[tactic(auto, unfolding(crate::specs::Source::declared_text))]
 fn print_declaration(
@@ -195,18 +225,11 @@ fn print_declaration(
         → string_bytes out.new ≡ string_bytes out.old ++ spec.declared_text
         (labels_of made.now.labels) uses.now.reached.items uses.now.changing.items number g) }
 {
-    if !is_written(made, uses, number) || is_outside(function_kind(&made.labels, number)) {
-        return Ok(());
+    if is_written(made, uses, number) && !is_outside(function_kind(&made.labels, number)) {
+        print_declared(out, made, uses, number)
+    } else {
+        Ok(())
     }
-    let function = made.function(number);
-    print_prototype(
-        out,
-        &made.labels,
-        number,
-        only_reads(made, uses, number),
-        function.result,
-        function.parameters.items(),
-    )
 }
 
 /// Appends the declarations of the functions that are written and aren't called from outside.

@@ -11,7 +11,9 @@ raises an alarm where it can't exclude that C leaves the behaviour undefined: an
 zero, a value that is read before it is stored. A conversion to a signed type that changes the value, which C leaves to the
 implementation, is an alarm as well.
 
-A line tells for each chart with alarms what Eva says. The program ends with status 1 where there is an alarm, an error or a warning
+A chart with alarms is looked at once more with more precision, which takes some ten seconds more: Eva then tells alarms that no run
+raises from others by what it knows of pairs of variables, and by the last tests on the way. A line tells for each chart with alarms
+what Eva says then. The program ends with status 1 where there is an alarm, an error or a warning
 of Eva, where Eva doesn't come to an end or to the functions of the chart, and where there is no chart. Eva knows no type of 128
 bits: a chart whose C needs one is named and left out. It needs `frama-c`, of Debian's package frama-c-base, and takes some seconds
 of a processor a chart. J charts are tried at a time, as many as there are processors where nothing is said."""
@@ -28,8 +30,11 @@ from chart_c import LONGEST, Failed, c_name, field_of, make_c, state_name, write
 from chart_check import check_chart
 from programs import ended, parser_of_charts, status_text
 
-EVA = ['frama-c', '-machdep', 'gcc_x86_64', '-eva', '-eva-precision', '3', '-eva-domains', 'sign', '-eva-no-print',
-       '-eva-show-progress', '-warn-signed-downcast']
+EVA = ['frama-c', '-machdep', 'gcc_x86_64', '-eva', '-eva-precision', '3', '-eva-no-print', '-eva-show-progress',
+       '-warn-signed-downcast']
+AT_FIRST = ['-eva-domains', 'sign']
+# How a chart with alarms is looked at once more: with what Eva knows of pairs of variables, and apart by the last eight tests.
+ONCE_MORE = ['-eva-domains', 'sign,octagon', '-eva-partition-history', '8']
 NEEDS_128_BITS = '__int128'
 SUMMARY = re.compile(r'\[eva:summary\].*', re.DOTALL)
 # A message of Eva that tells of something: its first line, and those that are set in below it.
@@ -144,7 +149,12 @@ def asked(path, program, is_declared):
         if NEEDS_128_BITS in content:
             return Found([], is_left_out=True)
         caller = write(folder, 'main.c', main_of(chart, is_declared))
-        return said_of(path, c_name(chart), DEFINED.findall(content), ended([*EVA, caller, source], LONGEST, cwd=folder))
+        for precision in (AT_FIRST, ONCE_MORE):
+            answer = ended([*EVA, *precision, caller, source], LONGEST, cwd=folder)
+            said = said_of(path, c_name(chart), DEFINED.findall(content), answer)
+            if not said.lines:
+                break
+        return said
 
 
 def main(words):

@@ -1,0 +1,4 @@
+pub mod Leading
+pub mod ConfigLemmas
+pub mod SplitLemmas
+pub mod StepLemmas

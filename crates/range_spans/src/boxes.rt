@@ -1,5 +1,5 @@
 //! Spans of all data, and what guards leave of them.
-ghost use Rattle.std.specs.Prelude.{◌≡◌, length, true, OnOk, IfOk, pos, ◌*ℤ◌, ◌+ℤ◌, ◌-ℤ◌, ◌^◌, ◌-◌};
+ghost use Rattle.std.specs.Prelude.{◌≡◌, length, true, OnOk, IfOk, pos, ◌*ℤ◌, ◌+ℤ◌, ◌-ℤ◌, ◌^◌, ◌-◌, ◌≤◌, ◌≢◌, OnErr, IfErr};
 ghost use Rattle.actions.specs.Trees.{expr_of};
 ghost use Rattle.actions.specs.declared.expr.Op.TheVariants as ops;
 ghost use Rattle.range_spans.specs.Known as known;
@@ -165,9 +165,10 @@ fn cut_at(sort: Sort, op: Op, truth: bool, number: Num, span: Span) -> Result<Sp
     }
 }
 
-/// The spans once more.
+/// The spans once more. The only gap is `Memory`.
 pub fn copied(declared: &Declared<'_>, spans: &[Span]) -> Result<Vec<Span>, Gap>
-    ensures { IfOk result (λ v. v.items ≡ spans.now) }
+    ensures same { IfOk result (λ v. v.items ≡ spans.now) }
+    ensures memory { IfErr result (λ gap. gap ≡ Gap.Memory) }
 {
     let mut copy = Vec::new(declared.alloc);
     match copy.extend_from_slice(spans) {
@@ -187,12 +188,15 @@ pub(crate) fn sort_of(declared: &Declared<'_>, datum: u32) -> Result<Sort, Gap>
     }
 }
 
-/// A datum has another span.
+/// Gives a datum another span. The only gap is `Unknown`: the datum has no span in the list, which
+/// stays as it was then.
 #[tactic(auto, using(crate::proofs::LookLemmas::box_of_set))]
 pub fn put(spans: &mut Vec<Span>, datum: u32, span: Span) -> Result<(), Gap>
     ensures data { OnOk result (box_of spans.new.items ≡ spec.put datum span
         (box_of spans.old.items)) }
     ensures count { OnOk result (length spans.new.items ≡ length spans.old.items) }
+    ensures beyond { OnErr result (length spans.old.items ≤ datum) }
+    ensures kept { OnErr result (spans.new.items ≡ spans.old.items) }
 {
     if datum as usize >= spans.len() {
         return Err(Gap::Unknown);
@@ -201,9 +205,10 @@ pub fn put(spans: &mut Vec<Span>, datum: u32, span: Span) -> Result<(), Gap>
     Ok(())
 }
 
-/// The span of a datum.
+/// The span of a datum. The only gap is `Unknown`: the datum has no span in the list.
 pub fn look(spans: &[Span], datum: u32) -> Result<Span, Gap>
-    ensures { IfOk result (λ s. s ≡ box_of spans.now datum) }
+    ensures span { IfOk result (λ s. s ≡ box_of spans.now datum) }
+    ensures beyond { OnErr result (length spans.now ≤ datum) }
 {
     if datum as usize >= spans.len() {
         return Err(Gap::Unknown);
@@ -211,11 +216,13 @@ pub fn look(spans: &[Span], datum: u32) -> Result<Span, Gap>
     Ok(spans[datum as usize])
 }
 
-/// For each datum the spans of two boxes, and what lies between.
+/// Widens the span of each datum to the least one that has the other span of that datum too. The
+/// only gap is `Unknown`: the lists have two lengths.
 pub fn join(spans: &mut Vec<Span>, other: &[Span]) -> Result<(), Gap>
     ensures data { OnOk result (box_of spans.new.items ≡ spec.joined_box (box_of spans.old.items)
         (box_of other.now)) }
     ensures count { OnOk result (length spans.new.items ≡ length spans.old.items) }
+    ensures other { OnErr result (length spans.old.items ≢ length other.now) }
 {
     if spans.len() != other.len() {
         return Err(Gap::Unknown);
@@ -272,7 +279,12 @@ fn flag(declared: &Declared<'_>, spans: &mut Vec<Span>, datum: u32, truth: bool)
     }
 }
 
-/// What is left of spans where an expression has that truth.
+/// Narrows spans to those of the data at which an expression has that truth. A datum is narrowed
+/// where it stands to the left of a comparison with a literal that has no more bits after the point
+/// than the datum, and a flag where it is read by itself, through `!`, `&&` and `||`. All other
+/// spans stay. Gaps: `Memory`; `Unknown` where a datum that would be narrowed isn't declared or has
+/// no span, and where a literal at the fraction of the datum, or a number beside it, doesn't fit
+/// 128 bits. After a gap the spans may be narrowed in part.
 pub fn narrow(
     declared: &Declared<'_>,
     spans: &mut Vec<Span>,

@@ -1,5 +1,5 @@
 //! An active configuration that is copied and compared.
-ghost use Rattle.std.specs.Prelude.{◌≡◌, IfOk};
+ghost use Rattle.std.specs.Prelude.{◌≡◌, IfOk, IfErr};
 ghost use Rattle.std.specs.Bool.{OnTrue};
 ghost use Rattle.active_config.specs.Tree.{state_count};
 ghost use Rattle.active_config.specs.Marks as spec;
@@ -25,10 +25,12 @@ impl Model for Config {
 }
 
 impl Config {
-    /// The configuration in which no state is active and none remembers a child.
+    /// The configuration in which no state is active and none remembers a child. The only gap is
+    /// `Memory`.
     #[tactic(auto, unfolding(active_config::specs::Marks::no_marks))]
     pub fn none(alloc: Global, shape: &Shape) -> Result<Config, Gap>
-        ensures { IfOk result (λ c. c ≡ spec.no_marks shape.now) }
+        ensures none { IfOk result (λ c. c ≡ spec.no_marks shape.now) }
+        ensures memory { IfErr result (λ gap. gap ≡ Gap.Memory) }
     {
         let states = shape.len() as usize;
         match vec![in alloc; false; states] {
@@ -40,9 +42,10 @@ impl Config {
         }
     }
 
-    /// The same configuration once more.
+    /// The same configuration once more. The only gap is `Memory`.
     pub fn copied(&self, alloc: Global) -> Result<Config, Gap>
-        ensures { IfOk result (λ c. c ≡ self.now) }
+        ensures same { IfOk result (λ c. c ≡ self.now) }
+        ensures memory { IfErr result (λ gap. gap ≡ Gap.Memory) }
     {
         let mut flags = Vec::new(alloc);
         let mut last = Vec::new(alloc);
@@ -55,7 +58,8 @@ impl Config {
         }
     }
 
-    /// Whether it is the other one. Where it says so, it is.
+    /// Whether it is the other one: the same states are active, and each state remembers the same
+    /// child, or none in both. The contract says what `true` means.
     pub fn same(&self, other: &Config) -> bool
         ensures { OnTrue result (self.now ≡ other.now) }
     {
@@ -73,7 +77,7 @@ impl Config {
         }
     }
 
-    /// The child that a state remembers, if any.
+    /// The child that a state remembers, if any. A number that is no state remembers none.
     #[tactic(auto, unfolding(active_config::specs::Marks::last_of))]
     pub fn last(&self, state: u32) -> Option<u32>
         ensures { result ≡ spec.last_of state self.now }
@@ -95,7 +99,8 @@ impl Config {
         }
     }
 
-    /// Makes a state, if there is one, remember a child.
+    /// Makes a state remember a child. Without a state, and at a number that is no state, nothing
+    /// changes.
     pub fn keep(&mut self, parent: Option<u32>, state: u32)
         ensures { self.new ≡ record self.old { last = spec.remember parent state self.old.last } }
     {

@@ -7,11 +7,13 @@ use std::alloc::Global;
 pub enum Gap {
     /// There is no more memory.
     Memory,
-    /// A number is too great, a datum isn't declared, or too little is known.
+    /// A number on the way doesn't fit 128 bits with a sign, or a datum isn't declared or has no
+    /// span.
     Unknown,
 }
 
-/// Where memory comes from, and what a chart declares.
+/// Where memory comes from, and what a chart declares: the sort and the mode of each datum, by its
+/// number.
 #[derive(Clone, Copy)]
 pub struct Declared<'a> {
     /// Where memory comes from.

@@ -25,7 +25,12 @@ fn apply(op: Op, left: Guess, right: Guess) -> Result<Guess, Gap>
     }
 }
 
-/// What is known of the value of an expression, where data have these spans.
+/// What is known of the value of an expression, where data have these spans and the configuration
+/// is that one: of a number a span of mantissas at some fraction, of a flag which truths it may
+/// have, and whether a divisor may be 0. Of a wrong use of sorts, as a sum of flags, nothing is
+/// known, which is no gap. Gaps: `Memory`; `Unknown` where a datum that is read isn't declared or
+/// has no span, where a mantissa, also one that is brought to the fraction of the other side,
+/// doesn't fit 128 bits, and those of `narrow` for the left side of `&&` and `||`.
 #[tactic(auto, unfolding(crate::specs::Known::guess))]
 pub fn guess(
     declared: &Declared<'_>,

@@ -3,6 +3,7 @@ ghost use Rattle.std.specs.Prelude.{◌≡◌, Some, IfOk};
 ghost use Rattle.fixed_point.specs.Scales as scales;
 ghost use Rattle.actions.specs.Names.{names_of};
 ghost use Rattle.range_spans.specs.Boxes as spec;
+ghost use Rattle.range_spans.specs.Sorts as sorts;
 
 use crate::boxes::sort_of;
 use crate::declared::{Declared, Gap};
@@ -49,6 +50,16 @@ fn range(scale: Scale) -> Span
     let low = least(scale);
     let high = greatest(scale);
     Span { low, high }
+}
+
+/// All mantissas of a sort: 0 and 1 of a flag, and those in the range of a scale.
+pub fn all_of(sort: Sort) -> Span
+    ensures { result ≡ sorts.all_of sort }
+{
+    match sort {
+        Sort::Flag => Span { low: 0, high: 1 },
+        Sort::Number(scale) => range(scale),
+    }
 }
 
 /// The ends of a span, none beyond the other end of a range.
@@ -140,7 +151,7 @@ fn number_kept(sort: Sort, mode: Mode, s: Span, frac: u32) -> Result<Kept, Gap>
     }
 }
 
-/// The mantissa of a flag.
+/// The mantissa of a flag, as a span: 1 for true, 0 for false.
 pub fn point(b: bool) -> Span
     ensures { result ≡ spec.point b }
 {
@@ -161,7 +172,7 @@ fn mode_of(declared: &Declared<'_>, datum: u32) -> Result<Mode, Gap>
     }
 }
 
-/// Whether a value may have that truth.
+/// Whether a value may have that truth. A value that isn't known to be a flag may.
 pub fn may_be(truth: bool, known: Known) -> bool
     ensures { result ≡ spec.may_be truth known }
 {
@@ -172,7 +183,10 @@ pub fn may_be(truth: bool, known: Known) -> bool
     }
 }
 
-/// What a datum may keep of numbers of a span.
+/// What a datum may keep of numbers of a span, whose mantissas have `frac` bits after the point:
+/// the floors at its own fraction where all are in range, else what its mode makes of them. Only in
+/// mode `error` there may be an overflow. The only gap is `Unknown`: the datum isn't declared or is
+/// a flag, or a mantissa at its fraction doesn't fit 128 bits.
 pub fn kept_at(declared: &Declared<'_>, datum: u32, span: Span, frac: u32) -> Result<Kept, Gap>
     ensures { IfOk result (λ k. Some k ≡ spec.number_kept
         (spec.sort_at (names_of declared.now.names.now) datum)

@@ -2,8 +2,9 @@
 //!
 //! Read the definitions in this order: `specs/Spans.antt`, spans of whole numbers;
 //! `specs/Known.antt`, what is known of the value of an expression; `specs/Narrow.antt`, what a
-//! guard leaves of spans; and `specs/Boxes.antt`, what a datum keeps of a value, and inputs. The
-//! laws say that nothing is missed. Where a number of the code would be too great, nothing is said.
+//! guard leaves of spans; `specs/Boxes.antt`, what a datum keeps of a value, and inputs; and
+//! `specs/Sorts.antt`, all values of a sort. The laws say that nothing is missed. Where a number of
+//! the code would be too great, nothing is said.
 #![tactic(auto)]
 
 mod boxes;
@@ -19,7 +20,7 @@ pub use boxes::{copied, join, look, narrow, put};
 pub use config::Config;
 pub use declared::{Declared, Gap};
 pub use guessing::guess;
-pub use kept::{Kept, kept_at, may_be, point};
+pub use kept::{Kept, all_of, kept_at, may_be, point};
 pub use known::{Guess, Known};
 pub use laws::{
     a_guard_leaves_the_data, a_guess_tells_the_value, an_assignment_stays_in_its_span,

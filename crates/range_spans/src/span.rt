@@ -4,7 +4,7 @@ ghost use Rattle.fixed_point.specs.Numbers.{floor_by, floor_div};
 ghost use Rattle.range_spans.specs.Spans as spec;
 ghost use Rattle.range_spans.specs.Known as known;
 
-/// The whole numbers from one to another.
+/// The whole numbers from one to another. Where the first is the greater one, there are none.
 #[derive(Clone, Copy, Debug, PartialEq, Eq)]
 pub struct Span {
     /// The least.
@@ -93,14 +93,14 @@ fn between(a: i128, b: i128) -> Span
 }
 
 impl Span {
-    /// Whether all its numbers are in the other one.
+    /// Whether both its ends are between those of the other one, so that all its numbers are in it.
     pub fn is_inside(self, other: Span) -> bool
         ensures { result ≡ spec.is_inside self other }
     {
         other.low <= self.low && self.high <= other.high
     }
 
-    /// The numbers of two spans, and those between.
+    /// The least span with the ends of both: their numbers, and those between.
     pub fn joined(self, other: Span) -> Span
         ensures { result ≡ spec.joined self other }
     {

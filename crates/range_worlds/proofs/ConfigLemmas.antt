@@ -1,5 +1,5 @@
 -- Children of a state as a list.
-use Rattle.std.proofs.Common.{◌≡◌, ℕ, List, [], ◌∷◌, ◌++◌, Option, Some, None, refl, sym, ap, ◌∙◌, append_assoc}
+use Rattle.std.proofs.Common.{◌≡◌, ℕ, List, [], ◌∷◌, ◌++◌, Option, Some, None, sym, ap, ◌∙◌, append_assoc}
 use Rattle.std.proofs.Common.{append-nil}
 use Rattle.active_config.specs.Tree.{Tree, IsTree, children_of, children_from, first_child, next_sibling}
 use Rattle.active_config.proofs.SiblingLemmas.{children_of-from}

@@ -1,13 +1,12 @@
 -- How lists of sets and work that leads to them are put together.
-use Rattle.std.proofs.Common.{◌≡◌, ◌⊎◌, inl, inr, ℕ, zero, suc, ◌<◌, ◌≤◌, Bool, true, false, List, [], ◌∷◌, ◌++◌}
-use Rattle.std.proofs.Common.{length, Option, Some, None}
+use Rattle.std.proofs.Common.{◌≡◌, ◌⊎◌, inl, inr, ℕ, zero, suc, ◌<◌, List, [], ◌∷◌, ◌++◌}
+use Rattle.std.proofs.Common.{length, Some}
 use Rattle.std.proofs.Common.{refl, sym, ap, subst, ◌∙◌, arith, slice_get, get_or, pos, ◌<ℤ◌, ℤ}
 use Rattle.std.proofs.lemmas.Int.{ints}
 use Rattle.std.proofs.lemmas.List.{get_or_default}
 use Rattle.actions.specs.Data.{datum}
 use Rattle.flow_base.specs.declared.bounds.Bounds.{Bounds}
-use Rattle.flow_base.specs.declared.fault.Fault.{Fault}
-use Rattle.actions.specs.Work.{Run, Work, Ended, Faulted, Unfinished, then_do, choose}
+use Rattle.actions.specs.Work.{Run, Work, Ended, Faulted, Unfinished, then_do}
 use Rattle.actions.specs.World.{World}
 use Rattle.range_worlds.specs.declared.setting.Setting.{Setting}
 use Rattle.range_worlds.specs.declared.worlds.Merge.{Merge}
@@ -18,21 +17,21 @@ use Rattle.range_rules.specs.declared.cert.Certificate.{Certificate}
 use Rattle.range_rules.specs.Worlds.{EndsIn, always_of}
 use Rattle.range_spans.specs.Boxes.{box_of, IsBox}
 use Rattle.range_spans.specs.Narrow.{Box, joined_box}
-use Rattle.range_spans.specs.Spans.{IsIn, joined, smaller, greater}
+use Rattle.range_spans.specs.Spans.{IsIn, joined}
 use Rattle.range_spans.specs.declared.span.Span.{Span}
 
 -- ---- places of lists
 
-got_front : {A : Type 0} (xs ys : List A) (i : ℕ) (x : A) → slice_get xs i ≡ Some x → slice_get (xs ++ ys) i ≡ Some x
+pub got_front : {A : Type 0} (xs ys : List A) (i : ℕ) (x : A) → slice_get xs i ≡ Some x → slice_get (xs ++ ys) i ≡ Some x
 got_front [] ys i x e = absurd cc
 got_front (y ∷ xs) ys zero x e = e
 got_front (y ∷ xs) ys (suc i) x e = got_front xs ys i x e
 
-got_last : {A : Type 0} (xs : List A) (x : A) → slice_get (xs ++ x ∷ []) (length xs) ≡ Some x
+pub got_last : {A : Type 0} (xs : List A) (x : A) → slice_get (xs ++ x ∷ []) (length xs) ≡ Some x
 got_last [] x = refl
 got_last (y ∷ xs) x = got_last xs x
 
-got_pushed : {A : Type 0} (xs : List A) (y : A) (i : ℕ) (x : A) → slice_get (xs ++ y ∷ []) i ≡ Some x
+pub got_pushed : {A : Type 0} (xs : List A) (y : A) (i : ℕ) (x : A) → slice_get (xs ++ y ∷ []) i ≡ Some x
     → (slice_get xs i ≡ Some x) ⊎ (y ≡ x)
 got_pushed [] y zero x e = let f : y ≡ x = cc in inr f
 got_pushed [] y (suc i) x e = absurd cc
@@ -113,9 +112,8 @@ joins s x y z l c d q g = record {
       };
     }
 
--- a set is put into a list: of its worlds and of those of the list each is in the set at hand, in one that is left,
--- or in one of
--- the others
+-- a set is put into a list: of its worlds and of those of the list each is in the set at hand, in one that is left, or
+-- in one of the others
 pub record Adding (s : Setting) (xs left : List Around) (x own : Around) (others : List Around) : Type 0 where
   pub old : (w : World) → Among s xs w → Among s left w ⊎ (At s own w ⊎ Among s others w)
   pub new : (w : World) → At s x w → At s own w

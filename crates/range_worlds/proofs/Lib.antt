@@ -1,3 +1,4 @@
+pub mod InsideLemmas
 pub mod Leading
 pub mod ConfigLemmas
 pub mod SplitLemmas

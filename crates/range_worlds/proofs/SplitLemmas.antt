@@ -1,8 +1,8 @@
 -- Worlds that are parted by a test, and changes of what is active.
-use Rattle.std.proofs.Common.{◌≡◌, ◌⊎◌, inl, inr, ℕ, Bool, true, false, List, [], ◌∷◌, ◌++◌, refl, sym, ap, subst, ◌∙◌}
-use Rattle.active_config.specs.Marks.{Configuration, with_mark}
+use Rattle.std.proofs.Common.{◌≡◌, ◌⊎◌, inl, inr, Bool, true, false, List, [], ◌∷◌, ◌++◌, refl, sym, ap, subst, ◌∙◌}
+use Rattle.active_config.specs.Marks.{with_mark}
 use Rattle.actions.specs.Changes.{keep_in}
-use Rattle.actions.specs.Work.{change, choose}
+use Rattle.actions.specs.Work.{change}
 use Rattle.actions.specs.World.{World}
 use Rattle.checked_chart.specs.Chart.{Chart, is_remembered}
 use Rattle.sos_rules.specs.Moves.{entered_in, keep_if}
@@ -11,11 +11,11 @@ use Rattle.range_worlds.specs.declared.configs.Change.{Change}
 use Rattle.range_worlds.specs.declared.configs.Change.TheVariants.{Clear, Enter}
 use Rattle.range_worlds.specs.declared.setting.Setting.{Setting}
 use Rattle.range_worlds.specs.declared.worlds.Parted.{Parted}
-use Rattle.range_worlds.specs.Leads.{chart_in, cert_in, At, Among, Adds, Works, Leads}
+use Rattle.range_worlds.specs.Leads.{chart_in, cert_in, At, Among, Adds, Leads}
 use Rattle.range_worlds.specs.Splits.{passes, turned, turn, marks_kept, Splits, Sorts}
 use Rattle.range_worlds.proofs.Leading.{popped, no_world}
 use Rattle.range_rules.specs.declared.cert.Around.{Around}
-use Rattle.range_rules.specs.Worlds.{EndsIn, always_of}
+use Rattle.range_rules.specs.Worlds.{always_of}
 use Rattle.range_spans.specs.Boxes.{IsBox, box_of}
 
 -- a world of the sets is in one that is left, or it passes the test and is in the first ones, or it is in the others

@@ -1,9 +1,7 @@
 -- Assignments and guards in a set of worlds.
-use Rattle.std.proofs.Common.{◌≡◌, ◌<◌, ℕ, Bool, true, false, List, Ok, Err, Some, Result, refl, sym, ap, subst, ◌∙◌}
-use Rattle.std.proofs.Common.{length, slice_index_or}
-use Rattle.flow_base.specs.declared.bounds.Bounds.{Bounds}
+use Rattle.std.proofs.Common.{◌≡◌, ℕ, Bool, true, false, List, Ok, Err, Some, Result, refl, sym, ap, subst, ◌∙◌}
+use Rattle.std.proofs.Common.{slice_index_or}
 use Rattle.flow_base.specs.declared.fault.Fault.{Fault}
-use Rattle.flow_base.specs.declared.fault.Fault.TheVariants as faults
 use Rattle.active_config.specs.Marks.{Configuration}
 use Rattle.actions.specs.declared.expr.Value.{Value}
 use Rattle.actions.specs.declared.expr.Value.TheVariants as values
@@ -12,11 +10,11 @@ use Rattle.actions.specs.Data.{Datum, assigned}
 use Rattle.actions.specs.Exprs.{Expr}
 use Rattle.actions.specs.Names.{Names}
 use Rattle.actions.specs.Values.{Valued, value_of, flag_of}
-use Rattle.actions.specs.Work.{Run, Ended, Faulted, change_or_fault, flag_or_fault}
+use Rattle.actions.specs.Work.{Run, change_or_fault, flag_or_fault}
 use Rattle.actions.specs.World.{World}
 use Rattle.sos_rules.specs.Searches.{assign, guard_holds}
 use Rattle.range_worlds.specs.declared.setting.Setting.{Setting}
-use Rattle.range_worlds.specs.Leads.{chart_in, cert_in, At, Among, Adds, Works, Leads}
+use Rattle.range_worlds.specs.Leads.{chart_in, cert_in, At, Among, Adds, Leads}
 use Rattle.range_worlds.proofs.Leading.{weaker_end}
 use Rattle.range_worlds.specs.declared.steps.Guarded.{Guarded}
 use Rattle.range_worlds.specs.Steps as spec
@@ -30,7 +28,6 @@ use Rattle.range_spans.specs.declared.known.Guess.{Guess}
 use Rattle.range_spans.specs.declared.known.Known.{Known}
 use Rattle.range_spans.specs.declared.known.Known.TheVariants.{Truth, Number, Nothing}
 use Rattle.range_spans.specs.Known.{Has, Tells, guess}
-use Rattle.range_spans.specs.Spans.{is_inside}
 use Rattle.range_spans.specs.declared.span.Span.{Span}
 use Rattle.range_spans.proofs.BoxLemmas.{guess_holds, narrowed_box, number_stored, flag_stored}
 

@@ -1,3 +1,4 @@
 pub mod Leads
+pub mod Inside
 pub mod Splits
 pub mod Steps

@@ -1,5 +1,5 @@
 -- What assignments and guards make of a set of worlds.
-use Rattle.std.specs.Prelude.{◌≡◌, ◌<◌, ◌&&◌, ℕ, Bool, true, false, Ok, List, length}
+use Rattle.std.specs.Prelude.{◌≡◌, ◌<◌, ℕ, Bool, true, false, Ok, List, length}
 use Rattle.actions.specs.declared.expr.Value.{Value}
 use Rattle.actions.specs.Changes.{assigned_value}
 use Rattle.actions.specs.Exprs.{Expr}
@@ -19,8 +19,8 @@ use Rattle.range_spans.specs.Known.{Has, Tells}
 use Rattle.range_spans.specs.Spans.{is_inside}
 use Rattle.range_spans.specs.declared.span.Span.{Span}
 
--- in the worlds of a set the value of an expression is one of those, and a divisor is 0 only where the certificate
--- says so
+-- in the worlds of a set the value of an expression is one of those, and a divisor is 0 only where the certificate says
+-- so
 pub record IsTold (s : Setting) (x : Around) (e : Expr) (k : Known) : Type 0 where
   pub tells : (w : World) → At s x w → Tells (record { known = k; zero = (cert_in s).zero }) (value_of w.vals w.marks e)
 

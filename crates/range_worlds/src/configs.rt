@@ -1,5 +1,5 @@
 //! What is asked of a configuration, and how it changes.
-ghost use Rattle.std.specs.Prelude.{◌≡◌, ◌<◌, ◌++◌, ◌∷◌, [], IfOk, OnOk};
+ghost use Rattle.std.specs.Prelude.{◌≡◌, ◌<◌, ◌≤◌, ◌++◌, ◌∷◌, [], IfOk, OnOk, OnErr};
 ghost use Rattle.std.specs.List.{list_any};
 ghost use Rattle.active_config.specs.Marks as marks;
 ghost use Rattle.active_config.specs.Marks.{is_on, is_bare};
@@ -34,9 +34,10 @@ pub enum Change {
     Enter(u32),
 }
 
-/// Whether a number is that of a state.
+/// Goes on where a number is that of a state. For any other number the answer is `Unknown`.
 pub fn is_state(setting: &Setting<'_>, state: u32) -> Result<(), Lack>
-    ensures { OnOk result (state < state_count (chart_in setting.now).tree) }
+    ensures state { OnOk result (state < state_count (chart_in setting.now).tree) }
+    ensures other { OnErr result (state_count (chart_in setting.now).tree ≤ state) }
 {
     if state >= setting.chart.shape().len() {
         return Err(Lack::Unknown);
@@ -55,7 +56,8 @@ fn pushed(states: Vec<u32>, state: u32) -> Result<Vec<u32>, Lack>
     }
 }
 
-/// The children of a state, in order.
+/// The children of a state, in the order of the chart. It lacks `Unknown` where the number is that
+/// of no state, and else at most memory.
 pub fn children(setting: &Setting<'_>, state: u32) -> Result<Vec<u32>, Lack>
     ensures { IfOk result (λ xs. xs.items ≡ children_of (chart_in setting.now).tree state) }
 {
@@ -79,7 +81,8 @@ fn any_on(config: &Config, states: &[u32]) -> bool
     }
 }
 
-/// Whether a state is active and none of its children is.
+/// Whether a state is active and none of its children is. `Unknown` where the number is that of no
+/// state.
 #[tactic(auto, unfolding(active_config::specs::Marks::is_bare))]
 fn bare(setting: &Setting<'_>, config: &Config, state: u32) -> Result<bool, Lack>
     ensures { IfOk result (λ b. b ≡ is_bare (chart_in setting.now).tree state config.now) }
@@ -88,7 +91,8 @@ fn bare(setting: &Setting<'_>, config: &Config, state: u32) -> Result<bool, Lack
     Ok(config.on(state) && !any_on(config, &inner))
 }
 
-/// Whether a state's parent may get one more active child.
+/// Whether one more child of a state's parent may become active: of an OR it must be the only one,
+/// and else the parent must be active. Where there is no parent it may.
 fn parent_takes(setting: &Setting<'_>, config: &Config, parent: Option<u32>) -> Result<bool, Lack>
     ensures { IfOk result (λ b. b ≡ marks.parent_takes_child (chart_in setting.now).tree parent
         config.now) }
@@ -106,7 +110,8 @@ fn parent_takes(setting: &Setting<'_>, config: &Config, parent: Option<u32>) -> 
     }
 }
 
-/// Whether a state can become active.
+/// Whether a state can become active: it isn't, and its parent may get one more active child.
+/// `Unknown` where the number is that of no state.
 #[tactic(auto, unfolding(active_config::specs::Marks::can_mark))]
 fn can_mark(setting: &Setting<'_>, config: &Config, state: u32) -> Result<bool, Lack>
     ensures { IfOk result (λ b. b ≡ marks.can_mark (chart_in setting.now).tree state config.now) }
@@ -127,7 +132,7 @@ fn is_this(child: Option<u32>, state: u32) -> bool
     }
 }
 
-/// Whether the parent of a state remembers it.
+/// Whether the parent of a state remembers it. `Unknown` where the number is that of no state.
 #[tactic(auto, unfolding(active_config::specs::Marks::is_last))]
 fn is_last(setting: &Setting<'_>, config: &Config, state: u32) -> Result<bool, Lack>
     ensures { IfOk result (λ b. b ≡ marks.is_last (chart_in setting.now).tree state config.now) }
@@ -139,7 +144,8 @@ fn is_last(setting: &Setting<'_>, config: &Config, state: u32) -> Result<bool, L
     }
 }
 
-/// Whether a configuration passes a test.
+/// Whether a configuration passes a test. `Unknown` where the test is of a number that is no state,
+/// but for `On`, which no such number passes.
 pub fn passes(setting: &Setting<'_>, config: &Config, test: Test) -> Result<bool, Lack>
     ensures { IfOk result (λ b. b ≡ spec.passes (chart_in setting.now).tree test config.now) }
 {
@@ -151,7 +157,7 @@ pub fn passes(setting: &Setting<'_>, config: &Config, test: Test) -> Result<bool
     }
 }
 
-/// Whether the parent of a state has history.
+/// Whether the parent of a state has history. `Unknown` where the number is that of no state.
 #[tactic(auto, unfolding(checked_chart::specs::Chart::is_remembered, checked_chart::specs::Chart::has_history))]
 fn is_remembered(setting: &Setting<'_>, state: u32) -> Result<bool, Lack>
     ensures { IfOk result (λ b. b ≡ charts.is_remembered (chart_in setting.now) state) }
@@ -170,7 +176,8 @@ fn is_remembered(setting: &Setting<'_>, state: u32) -> Result<bool, Lack>
     }
 }
 
-/// A configuration in which a state becomes active.
+/// The configuration after a state became active. Its parent remembers it where that has history.
+/// `Unknown` where the number is that of no state.
 #[tactic(auto, unfolding(active_config::specs::Marks::with_last))]
 fn entered(setting: &Setting<'_>, config: Config, state: u32) -> Result<Config, Lack>
     ensures { IfOk result (λ c. c ≡ spec.entered_marks (chart_in setting.now) state config) }
@@ -186,7 +193,8 @@ fn entered(setting: &Setting<'_>, config: Config, state: u32) -> Result<Config, 
     Ok(changed)
 }
 
-/// A changed configuration.
+/// The configuration after a change. `Unknown` where a number that is no state is entered; where
+/// one becomes inactive nothing changes.
 pub fn turned(setting: &Setting<'_>, config: Config, change: Change) -> Result<Config, Lack>
     ensures { IfOk result (λ c. c ≡ spec.turned (chart_in setting.now) change config) }
 {

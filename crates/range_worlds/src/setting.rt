@@ -4,20 +4,25 @@ use range_rules::{Cell, Certificate};
 use range_spans::{Declared, Gap, Span};
 use std::alloc::Global;
 
-/// What a certificate lacks, or why nothing is said of a chart.
+/// What a certificate lacks, or why nothing is said of a chart. The search for a certificate mends
+/// what is lacking, where it can, and asks again.
 #[derive(Drop)]
 pub enum Lack {
     /// There is no more memory.
     Memory,
-    /// A number is too great, a search goes round, or too little is known.
+    /// A number is that of no state, datum or junction or doesn't fit 128 bits, the search of lists
+    /// goes through too many junctions, states are nested too deep, or nothing is known of what a
+    /// datum is given.
     Unknown,
-    /// There may be a divisor of 0.
+    /// There may be a divisor of 0, and the certificate says that there is none.
     Zero,
-    /// The datum of that number may overflow.
+    /// The datum of that number may overflow, and the certificate says that it doesn't.
     Overflow(u32),
-    /// The datum of that number may be in that span.
+    /// The datum of that number may be anywhere in that span, which isn't inside the one in which
+    /// the certificate says that it always is.
     Beyond(u32, Span),
-    /// Processing for a sent event has no cell. This one has no ends yet.
+    /// No cell of the certificate is for the processing of that state for that event from those
+    /// worlds. This one is, and has no ends yet.
     Sent(Box<Cell>),
 }
 

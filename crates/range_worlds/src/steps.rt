@@ -25,7 +25,8 @@ fn declared<'a>(setting: &Setting<'a>) -> Declared<'a>
     }
 }
 
-/// Where a divisor may be 0, the certificate says so.
+/// Goes on where no divisor may be 0 or the certificate says that one may be. Else the answer is
+/// `Zero`.
 fn zero_allowed(setting: &Setting<'_>, zero: bool) -> Result<(), Lack>
     ensures { OnOk result (zero ≡ true → (cert_in setting.now).zero ≡ true) }
 {
@@ -39,7 +40,8 @@ fn zero_allowed(setting: &Setting<'_>, zero: bool) -> Result<(), Lack>
     }
 }
 
-/// Where a datum may overflow, the certificate says so.
+/// Goes on where a datum doesn't overflow or the certificate says that it may. Else the answer is
+/// `Overflow`.
 fn overflow_allowed(setting: &Setting<'_>, datum: u32, over: bool) -> Result<(), Lack>
     ensures { OnOk result (over ≡ true
         → slice_index_or (cert_in setting.now).over.items datum false ≡ true) }
@@ -54,8 +56,9 @@ fn overflow_allowed(setting: &Setting<'_>, datum: u32, over: bool) -> Result<(),
     }
 }
 
-/// What is known of the value of an expression. A divisor may be 0 only where the certificate says
-/// so.
+/// What is known of the value of an expression in the worlds of a set. Where a divisor may be 0 and
+/// the certificate doesn't say so the answer is `Zero`, and `Unknown` where nothing can be said of
+/// the value.
 fn told(setting: &Setting<'_>, x: &Around, expr: &Expr) -> Result<Known, Lack>
     ensures { IfOk result (λ k. IsTold setting.now x.now (expr_of expr.now) k) }
 {
@@ -65,7 +68,8 @@ fn told(setting: &Setting<'_>, x: &Around, expr: &Expr) -> Result<Known, Lack>
     Ok(found.known)
 }
 
-/// The worlds of a set at which an expression has that truth.
+/// A set with all worlds of another at which an expression has that truth. `Unknown` where a number
+/// is too great.
 fn narrowed(setting: &Setting<'_>, x: &Around, expr: &Expr, truth: bool) -> Result<Around, Lack>
     ensures { IfOk result (λ y. IsNarrowed setting.now x.now (expr_of expr.now) truth y) }
 {
@@ -76,8 +80,8 @@ fn narrowed(setting: &Setting<'_>, x: &Around, expr: &Expr, truth: bool) -> Resu
     Ok(Around { config, spans })
 }
 
-/// The set in which a datum has that span. It must be in the span in which the datum is at each
-/// moment.
+/// The set in which a datum has that span. Where the span isn't inside the one in which the datum
+/// always is, the answer is `Beyond`. `Unknown` where the datum isn't declared or has no span.
 fn stored(setting: &Setting<'_>, x: Around, datum: u32, span: Span) -> Result<Around, Lack>
     ensures { IfOk result (λ y. IsPut setting.now x datum span y) }
 {
@@ -97,7 +101,7 @@ fn stored(setting: &Setting<'_>, x: Around, datum: u32, span: Span) -> Result<Ar
     })
 }
 
-/// Whether a datum may overflow, by the certificate.
+/// Whether a datum may overflow, by the certificate. One of which it says nothing may not.
 fn may_overflow(setting: &Setting<'_>, datum: u32) -> bool
     ensures { result ≡ slice_index_or (cert_in setting.now).over.items datum false }
 {
@@ -107,7 +111,8 @@ fn may_overflow(setting: &Setting<'_>, datum: u32) -> bool
     }
 }
 
-/// A datum takes a number of a span.
+/// A datum takes a number of a span, whose mantissas have `frac` bits after the point: adds the set
+/// in which it does to a list.
 fn numbered(
     setting: &Setting<'_>,
     outs: Vec<Around>,
@@ -132,7 +137,7 @@ fn numbered(
     Ok(all)
 }
 
-/// A set once more.
+/// A set once more: the same configuration and the same spans. It lacks at most memory.
 pub fn again(setting: &Setting<'_>, x: &Around) -> Result<Around, Lack>
     ensures { IfOk result (λ y. (y.config ≡ x.now.config) × (y.spans.items ≡ x.now.spans.items)) }
 {
@@ -141,7 +146,8 @@ pub fn again(setting: &Setting<'_>, x: &Around) -> Result<Around, Lack>
     Ok(Around { config, spans })
 }
 
-/// A datum takes the truth of an expression, where it may have it.
+/// A datum takes the truth of an expression, where it may have it: adds to a list the set of the
+/// worlds at which the expression has that truth, with the datum set to it.
 fn flagged(
     setting: &Setting<'_>,
     outs: Vec<Around>,
@@ -164,7 +170,8 @@ fn flagged(
     Ok(all)
 }
 
-/// A datum takes a value of an expression.
+/// A datum takes a value of an expression: adds sets for the values of which it is known that it
+/// may have them. `Unknown` where nothing is known of it.
 fn taken(
     setting: &Setting<'_>,
     outs: Vec<Around>,
@@ -190,7 +197,12 @@ fn taken(
     }
 }
 
-/// A datum takes the value of an expression, in each world of some sets.
+/// A datum takes the value of an expression, in each world of some sets: sets with all worlds after
+/// that. What is known of a number is brought to the fraction of the datum and into its range, as
+/// its mode says; of a flag that may have both truths two sets come, each with the data at which it
+/// has that one. Answers: `Zero` and `Overflow` where such a fault may come and the certificate
+/// doesn't say so, `Beyond` where the datum may leave the span in which it always is, `Unknown`
+/// where nothing is known of the value, a number doesn't fit 128 bits, or the datum isn't declared.
 pub fn assign(
     setting: &Setting<'_>,
     xs: Vec<Around>,
@@ -218,7 +230,7 @@ pub struct Guarded {
     pub no: Vec<Around>,
 }
 
-/// Adds the worlds of a set at which a guard has that truth, where it may have it.
+/// Adds to a list the worlds of a set at which a guard has that truth, where it may have it.
 fn sided(
     setting: &Setting<'_>,
     outs: Vec<Around>,
@@ -238,7 +250,10 @@ fn sided(
     Ok(all)
 }
 
-/// Evaluates a guard in each world of some sets.
+/// Evaluates a guard in each world of some sets: sets with all worlds in which it is true, and sets
+/// with all in which it is false. A set whose spans don't decide it is in part in both. Answers:
+/// `Zero` where a divisor may be 0 and the certificate doesn't say so, `Unknown` where a number
+/// doesn't fit 128 bits or a datum that is read isn't declared.
 pub fn guard(setting: &Setting<'_>, xs: Vec<Around>, expr: &Expr) -> Result<Guarded, Lack>
     ensures { IfOk result (λ r. Leads setting.now (Among setting.now xs.items)
         (λ b n depth. rules.guard_holds (Some (expr_of expr.now))) (guard_ends setting.now r)) }

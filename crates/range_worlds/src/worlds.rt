@@ -10,10 +10,12 @@ ghost use Rattle.range_worlds.specs.Splits.{Splits, Sorts};
 use crate::configs::{Change, Test, passes, turned};
 use crate::setting::{Lack, Setting};
 use actions::{Sort, VarKind};
+use checked_chart::Chart;
 use range_rules::Around;
 use range_spans::{Span, join};
 
-/// Whether a datum has no value in a set, so that no world is in it.
+/// Whether some datum has no value in a set, since its span ends before it begins: then no world is
+/// in it.
 fn is_empty(setting: &Setting<'_>, x: &Around) -> bool
     ensures { OnTrue result ((w : World) → At setting.now x.now w → ⊥) }
 {
@@ -27,14 +29,11 @@ fn is_empty(setting: &Setting<'_>, x: &Around) -> bool
     false
 }
 
-/// Whether sets are kept apart, since a flag of the chart's own has other values in each of them.
-/// No
-/// answer of a check depends on it.
-fn is_apart(setting: &Setting<'_>, a: &[Span], b: &[Span]) -> bool {
-    if !setting.apart {
-        return false;
-    }
-    let vars = setting.chart.names().vars.items();
+/// Whether a flag that is no input has another span in each of two sets. Where a setting asks for it
+/// such sets are kept apart. No contract depends on it: what holds of joined sets holds of sets that
+/// are kept apart.
+pub fn is_apart(chart: &Chart, a: &[Span], b: &[Span]) -> bool {
+    let vars = chart.names().vars.items();
     for (i, var) in vars.iter().enumerate() {
         if var.sort == Sort::Flag
             && var.kind != VarKind::Input
@@ -48,7 +47,8 @@ fn is_apart(setting: &Setting<'_>, a: &[Span], b: &[Span]) -> bool {
     false
 }
 
-/// The worlds of two sets with one configuration, and those between.
+/// A set with all worlds of two sets of one configuration: the span of each datum is the least one
+/// with both. `Unknown` where one of them has more spans than the other.
 fn joined(setting: &Setting<'_>, x: Around, y: &Around) -> Result<Around, Lack>
     requires { x.config ≡ y.now.config }
     ensures { IfOk result (λ z. Joins setting.now x y.now z) }
@@ -79,7 +79,7 @@ fn push(xs: Vec<Around>, x: Around) -> Result<Vec<Around>, Lack>
 fn may_join(setting: &Setting<'_>, x: &Around, y: &Around) -> bool
     ensures { OnTrue result (x.now.config ≡ y.now.config) }
 {
-    x.config.same(&y.config) && !is_apart(setting, &x.spans, &y.spans)
+    x.config.same(&y.config) && !(setting.apart && is_apart(setting.chart, &x.spans, &y.spans))
 }
 
 /// A set at hand, and sets that aren't joined with it.
@@ -105,7 +105,10 @@ fn merged(setting: &Setting<'_>, merge: Merge, y: Around) -> Result<Merge, Lack>
     }
 }
 
-/// Puts a set into a list: joined with those of the same configuration.
+/// Puts a set into a list: one with all its worlds, and with all of those sets of the list that
+/// have the same configuration and aren't kept apart, in place of these. A set without worlds
+/// leaves the list as it was. The order of the list may change. `Unknown` where two sets that are
+/// joined have spans for two numbers of data.
 pub fn add(setting: &Setting<'_>, xs: Vec<Around>, x: Around) -> Result<Vec<Around>, Lack>
     ensures { IfOk result (λ ys. Adds setting.now x xs.items ys.items) }
 {
@@ -125,7 +128,7 @@ pub fn add(setting: &Setting<'_>, xs: Vec<Around>, x: Around) -> Result<Vec<Arou
     Ok(all)
 }
 
-/// Puts two lists together.
+/// Puts two lists together: each set of the second is put into the first, as by `add`.
 pub fn union(setting: &Setting<'_>, xs: Vec<Around>, ys: Vec<Around>) -> Result<Vec<Around>, Lack>
     ensures { IfOk result (λ both. Unites setting.now xs.items ys.items both.items) }
 {
@@ -160,7 +163,8 @@ fn sorted(setting: &Setting<'_>, split: Parted, x: Around, passed: bool) -> Resu
     }
 }
 
-/// Parts worlds by a test of what is active.
+/// Parts worlds by a test of what is active: all that pass it are in the first list, all others in
+/// the second. `Unknown` where the test is of a number that is no state, but for `On`.
 pub fn split(setting: &Setting<'_>, xs: Vec<Around>, test: Test) -> Result<Parted, Lack>
     ensures { IfOk result (λ r. Splits setting.now test xs.items r.yes.items r.no.items) }
 {
@@ -176,7 +180,8 @@ pub fn split(setting: &Setting<'_>, xs: Vec<Around>, test: Test) -> Result<Parte
     Ok(parts)
 }
 
-/// The worlds where what is active or remembered has changed.
+/// Changes what is active or remembered in each world of some sets: sets with all worlds after
+/// that. `Unknown` where a number that is no state is entered.
 pub fn changed(setting: &Setting<'_>, xs: Vec<Around>, change: Change) -> Result<Vec<Around>, Lack>
     ensures { IfOk result (λ ys. Leads setting.now (Among setting.now xs.items)
         (λ b n depth. work.change (spec.turn (chart_in setting.now) change))

@@ -1,4 +1,3 @@
-use Rattle.active_config.specs.Tree.{Tree}
 use Rattle.checked_chart.proofs.Walks.{ahead}
 use Rattle.range_worlds.specs.Leads.{chart_in}
 use Rattle.range_worlds.proofs.ConfigLemmas.{Walks}

@@ -1,6 +1,4 @@
-use Rattle.std.proofs.Common.{◌⊎◌, ℕ, vec_len}
-use Rattle.actions.specs.World.{World}
-use Rattle.range_worlds.specs.Leads.{At, Among}
+use Rattle.std.proofs.Common.{vec_len}
 use Rattle.range_worlds.proofs.Leading.{Adding}
 use Rattle.range_worlds.proofs.worlds.add.Given as goal
 

@@ -1,4 +1,4 @@
-use Rattle.std.proofs.Common.{◌≡◌, [], arith, refl}
+use Rattle.std.proofs.Common.{◌≡◌, [], arith}
 use Rattle.std.proofs.lemmas.List.{nil_from_length}
 use Rattle.range_worlds.proofs.SplitLemmas.{parting_step, parting_last}
 use Rattle.range_worlds.proofs.worlds.split.Goals as goal

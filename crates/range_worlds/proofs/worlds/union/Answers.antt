@@ -1,4 +1,4 @@
-use Rattle.std.proofs.Common.{◌≡◌, [], arith, refl}
+use Rattle.std.proofs.Common.{◌≡◌, [], arith}
 use Rattle.std.proofs.lemmas.List.{nil_from_length}
 use Rattle.range_worlds.proofs.Leading.{uniting_step, uniting_last}
 use Rattle.range_worlds.proofs.worlds.union.Goals as goal

@@ -115,10 +115,7 @@ impl Pass<'_> {
 
 /// So many places to which nothing was handed on.
 fn unreached_places(alloc: Global, count: usize) -> Result<Vec<Option<Place>>, Memory> {
-    match vec![in alloc; None; count] {
-        Ok(places) => Ok(places),
-        Err(_) => Err(Memory),
-    }
+    Ok(vec![in alloc; None; count]?)
 }
 
 /// The places of a copy of these instructions that takes the facts for known, in code whose root

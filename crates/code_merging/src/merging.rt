@@ -22,9 +22,7 @@ fn renamed_instrs(alloc: Global, instrs: &[Instr], numbers: &[u32]) -> Result<Ve
     let mut made = Vec::new(alloc);
     for instr in instrs {
         let renamed = renamed_instr(alloc, instr, numbers)?;
-        let Ok(()) = made.push(renamed) else {
-            return Err(Memory);
-        };
+        made.push(renamed)?;
     }
     Ok(made)
 }

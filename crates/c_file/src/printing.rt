@@ -232,14 +232,10 @@ fn print_commented(
         (labels_of made.now.labels) (said_of made.now.said) uses.now.changing.items number g) }
 {
     let function = made.function(alloc, number)?;
-    let Ok(()) = print_comment(out, &made.said, number) else {
-        return Err(Memory);
-    };
+    print_comment(out, &made.said, number)?;
     let reads = only_reads(made, uses, number);
-    match print_function(alloc, out, &made.labels, number, reads, &function) {
-        Ok(()) => Ok(()),
-        Err(_) => Err(Memory),
-    }
+    print_function(alloc, out, &made.labels, number, reads, &function)?;
+    Ok(())
 }
 
 /// Appends a function where it is written.
@@ -323,9 +319,7 @@ fn print_source(
         made.now.shape.bounds made.now.shape.outputs made.now.shape.notes calls
         (functions_of made.now) uses.now.reached.items uses.now.changing.items) }
 {
-    let Ok(()) = print_front(alloc, out, made, uses, calls, identity) else {
-        return Err(Memory);
-    };
+    print_front(alloc, out, made, uses, calls, identity)?;
     print_functions(alloc, out, made, uses)?;
     Ok(())
 }

@@ -81,11 +81,8 @@ fn with_shared(tag: Tag, is_shared: bool) -> Tag
     ensures { result ≡ spec.with_shared is_shared tag }
 {
     Tag {
-        proc: tag.proc,
-        home: tag.home,
-        event: tag.event,
         shared: tag.shared || is_shared,
-        plays: tag.plays,
+        ..tag
     }
 }
 
@@ -117,11 +114,9 @@ fn with_plays(tag: Tag) -> Tag
     ensures { result ≡ spec.with_plays tag }
 {
     Tag {
-        proc: tag.proc,
         home: None,
-        event: tag.event,
-        shared: tag.shared,
         plays: true,
+        ..tag
     }
 }
 
@@ -190,11 +185,9 @@ fn copy_tag(sets: &[Vec<u32>], tag: Tag, key: CopyKey) -> Tag
     ensures { result ≡ spec.copy_tag (facts_of sets.now key.facts) tag }
 {
     Tag {
-        proc: tag.proc,
         home: home_tag(tag.home, key.facts.home),
         event: both_events(tag.event, event_tag(sets, key.facts.event)),
-        shared: tag.shared,
-        plays: tag.plays,
+        ..tag
     }
 }
 

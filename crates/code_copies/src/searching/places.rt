@@ -47,17 +47,15 @@ impl Pass<'_> {
                 self.hand_on(
                     next,
                     Facts {
-                        home: facts.home,
                         event: found,
-                        is_rooted: facts.is_rooted,
+                        ..facts
                     },
                 );
                 self.hand_on(
                     over,
                     Facts {
-                        home: facts.home,
                         event: other,
-                        is_rooted: facts.is_rooted,
+                        ..facts
                     },
                 );
             }
@@ -92,8 +90,7 @@ impl Pass<'_> {
                 next,
                 Facts {
                     home: Some(*state),
-                    event: facts.event,
-                    is_rooted: facts.is_rooted,
+                    ..facts
                 },
             ),
             Instr::Mark(state) => self.hand_on(next, after_mark(self.keeps_root, *state, facts)),

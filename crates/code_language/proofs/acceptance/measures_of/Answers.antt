@@ -3,6 +3,12 @@ use Rattle.code_language.specs.Code.{code_of}
 use Rattle.code_language.proofs.AcceptLemmas.{both_known, none_in_procs, only_memory}
 use Rattle.code_language.proofs.acceptance.measures_of.Goals as goal
 
+pub limited-requires-clause-few : goal.limited-requires-clause-few
+limited-requires-clause-few c = c.requires.few
+
+pub limited-requires-clause-table : goal.limited-requires-clause-table
+limited-requires-clause-table c = c.requires.table
+
 pub limited-requires-clause-starts : goal.limited-requires-clause-starts
 limited-requires-clause-starts c = both_known (code_of c.args.raw.now) c.requires
 

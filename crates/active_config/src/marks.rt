@@ -48,13 +48,9 @@ impl Marks {
         ensures consistent { IfOk result (λ marks. spec.IsConsistent shape.now marks) }
     {
         let states = shape.len();
-        match BitList::make(alloc, states) {
-            Ok(flags) => match no_states(alloc, states as usize) {
-                Ok(last) => Ok(Marks { flags, last }),
-                Err(_) => Err(Memory),
-            },
-            Err(_) => Err(Memory),
-        }
+        let flags = BitList::make(alloc, states)?;
+        let last = no_states(alloc, states as usize)?;
+        Ok(Marks { flags, last })
     }
 
     /// Whether a state is active.

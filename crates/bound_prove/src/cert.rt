@@ -66,10 +66,7 @@ pub(crate) fn event_count(chart: &Chart) -> usize
 fn needs(alloc: Global, count: u32, first: Need) -> Result<Vec<Need>, Memory>
     ensures { IfOk result (λ v. spec.AreAll count first v.items) }
 {
-    match vec![in alloc; first; count as usize] {
-        Ok(made) => Ok(made),
-        Err(_) => Err(Memory),
-    }
+    Ok(vec![in alloc; first; count as usize]?)
 }
 
 impl Row {
@@ -132,9 +129,7 @@ impl Cert {
         let mut rows = Vec::new(alloc);
         for _ in 0..event_count(chart) {
             let row = Row::make(alloc, junctions, states, first)?;
-            let Ok(()) = rows.push(row) else {
-                return Err(Memory);
-            };
+            rows.push(row)?;
         }
         Ok(Cert { rows })
     }

@@ -34,10 +34,7 @@ pub(crate) struct Colours {
 fn whites(alloc: Global, count: u32) -> Result<Vec<Colour>, Memory>
     ensures { IfOk result (λ v. spec.AreWhite count v.items) }
 {
-    match vec![in alloc; Colour::White; count as usize] {
-        Ok(made) => Ok(made),
-        Err(_) => Err(Memory),
-    }
+    Ok(vec![in alloc; Colour::White; count as usize]?)
 }
 
 impl ColourRow {
@@ -97,9 +94,7 @@ impl Colours {
         let mut rows = Vec::new(alloc);
         for _ in 0..event_count(chart) {
             let row = ColourRow::make(alloc, junctions, states)?;
-            let Ok(()) = rows.push(row) else {
-                return Err(Memory);
-            };
+            rows.push(row)?;
         }
         Ok(Colours { rows })
     }

@@ -262,8 +262,6 @@ fn push_cell(cells: &mut Vec<Cell>, event: Event, part: Part) -> Result<(), Memo
         part,
         index: 0,
     };
-    match cells.push(cell) {
-        Ok(()) => Ok(()),
-        Err(_) => Err(Memory),
-    }
+    cells.push(cell)?;
+    Ok(())
 }

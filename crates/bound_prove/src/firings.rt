@@ -26,10 +26,8 @@ impl FiringRow {
     fn make(alloc: Global, states: u32) -> Result<FiringRow, Memory>
         ensures { IfOk result (λ row. spec.IsEmptyRow row) }
     {
-        match vec![in alloc; None; states as usize] {
-            Ok(needs) => Ok(FiringRow { needs }),
-            Err(_) => Err(Memory),
-        }
+        let needs = vec![in alloc; None; states as usize]?;
+        Ok(FiringRow { needs })
     }
 
     /// Keeps a need.
@@ -52,9 +50,7 @@ impl Firings {
         let mut rows = Vec::new(alloc);
         for _ in 0..event_count(chart) {
             let row = FiringRow::make(alloc, states)?;
-            let Ok(()) = rows.push(row) else {
-                return Err(Memory);
-            };
+            rows.push(row)?;
         }
         Ok(Firings { rows })
     }

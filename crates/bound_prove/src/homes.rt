@@ -36,10 +36,7 @@ pub(crate) struct Marks {
 fn no_walks(alloc: Global, junctions: usize) -> Result<Vec<u32>, Memory>
     ensures { IfOk result (λ v. spec.AreNoWalks junctions v.items) }
 {
-    match vec![in alloc; 0u32; junctions] {
-        Ok(made) => Ok(made),
-        Err(_) => Err(Memory),
-    }
+    Ok(vec![in alloc; 0u32; junctions]?)
 }
 
 impl Marks {
@@ -96,9 +93,7 @@ impl Marks {
         if self.walks[j as usize] == self.stamp {
             return Ok(());
         }
-        let Ok(()) = self.todo.push(j) else {
-            return Err(Memory);
-        };
+        self.todo.push(j)?;
         self.walks[j as usize] = self.stamp;
         Ok(())
     }
@@ -118,9 +113,7 @@ impl Marks {
         if has(&self.homes, home) {
             return Ok(());
         }
-        let Ok(()) = self.homes.push(home) else {
-            return Err(Memory);
-        };
+        self.homes.push(home)?;
         Ok(())
     }
 

@@ -52,9 +52,7 @@ impl Lookup<'_> {
         if self.is_done(cell) {
             return Ok(need);
         }
-        let Ok(()) = met.push(cell) else {
-            return Err(Memory);
-        };
+        met.push(cell)?;
         Ok(need)
     }
 }

@@ -96,9 +96,7 @@ impl Lookup<'_> {
             firings.keep(self.cell.event, home, need);
             return Ok(need);
         }
-        let Ok(()) = met.extend_from_slice(&own) else {
-            return Err(Memory);
-        };
+        met.extend_from_slice(&own)?;
         Ok(need)
     }
 

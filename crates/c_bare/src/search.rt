@@ -71,10 +71,7 @@ fn are_needless(flags: &[bool], functions: &[Function]) -> bool
 /// All flags are set but that of a function whose parameters are kept, and those of functions that
 /// a `switch` calls.
 fn first_flags(alloc: Global, kept: usize, functions: &[Function]) -> Result<Vec<bool>, Memory> {
-    let mut flags = match vec![in alloc; true; functions.len()] {
-        Ok(flags) => flags,
-        Err(_) => return Err(Memory),
-    };
+    let mut flags = vec![in alloc; true; functions.len()]?;
     clear(&mut flags, kept);
     for function in functions {
         clear_selected(&mut flags, function.lines.items());

@@ -69,9 +69,7 @@ pub(crate) fn noted_in(alloc: Global, procs: &[List<Instr>]) -> Result<List<u32>
     requires { length procs.now ≤ PROC_LIMIT }
     ensures { IfOk result (λ numbers. items_of numbers ≡ noted_in (procs_seen procs.now)) }
 {
-    let Ok(mut flags) = vec![in alloc; false; procs.len()] else {
-        return Err(Memory);
-    };
+    let mut flags = vec![in alloc; false; procs.len()]?;
     for proc in procs {
         mark_notes(&mut flags, proc.items());
     }

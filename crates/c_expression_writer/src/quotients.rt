@@ -89,10 +89,8 @@ pub fn helper(shape: &FileShape<'_>, width: Width) -> u32
 fn two(alloc: Global, left: CExpr, right: CExpr) -> Result<List<CExpr>, Memory>
     ensures { IfOk result (λ list. exprs_of (items_of list) ≡ expr_of left ∷ expr_of right ∷ []) }
 {
-    match vec![in alloc; left, right] {
-        Ok(list) => Ok(List::of(list)),
-        Err(_) => Err(Memory),
-    }
+    let list = vec![in alloc; left, right]?;
+    Ok(List::of(list))
 }
 
 /// Appends a call of the function for quotients.

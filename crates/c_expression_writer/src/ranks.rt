@@ -33,9 +33,7 @@ pub(crate) fn ranks_of(alloc: Global, tree: &Shape) -> Result<Ranks, Memory>
     let mut ranks = Vec::new(alloc);
     let mut ors: u32 = 0;
     for state in 0..tree.len() {
-        let Ok(()) = ranks.push(ors) else {
-            return Err(Memory);
-        };
+        ranks.push(ors)?;
         ors += or_at(tree, state);
     }
     Ok(Ranks { ranks, ors })

@@ -21,10 +21,8 @@ fn add_call(calls: &mut Vec<FunctionCall>, caller: u32, callee: u32) -> Result<(
     ensures { OnOk result
         (calls.new.items ≡ calls.old.items ++ call_to caller callee ∷ []) }
 {
-    match calls.push(FunctionCall { caller, callee }) {
-        Ok(()) => Ok(()),
-        Err(_) => Err(Memory),
-    }
+    calls.push(FunctionCall { caller, callee })?;
+    Ok(())
 }
 
 /// Adds the calls of cases.

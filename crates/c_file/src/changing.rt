@@ -52,12 +52,10 @@ pub(crate) fn turned_calls(
     while left > 0 {
         left -= 1;
         let FunctionCall { caller, callee } = calls[left];
-        let Ok(()) = turned.push(FunctionCall {
+        turned.push(FunctionCall {
             caller: callee,
             callee: caller,
-        }) else {
-            return Err(Memory);
-        };
+        })?;
     }
     Ok(turned)
 }

@@ -78,10 +78,8 @@ fn printed_header(
         ≡ header_text made.now.name.now (shape_seen made.now.shape) facts identity) }
 {
     let mut text = String::new(alloc);
-    match print_header(alloc, &mut text, made.name, &made.shape, facts, identity) {
-        Ok(()) => Ok(text),
-        Err(_) => Err(Memory),
-    }
+    print_header(alloc, &mut text, made.name, &made.shape, facts, identity)?;
+    Ok(text)
 }
 
 /// The header and the source of a chart's C.

@@ -72,9 +72,7 @@ fn raise_up(reached: &[bool], heights: &mut [u32], calls: &[FunctionCall]) -> bo
 /// Heights of the functions that are reached: all calls are gone over until there is no news, or
 /// often enough. Down first, since most calls are of functions with higher numbers.
 fn heights_of(alloc: Global, uses: &Uses) -> Result<Vec<u32>, Memory> {
-    let Ok(mut heights) = vec![in alloc; 0u32; uses.reached.len()] else {
-        return Err(Memory);
-    };
+    let mut heights = vec![in alloc; 0u32; uses.reached.len()]?;
     for _ in 0..ROUNDS {
         if !raise_down(&uses.reached, &mut heights, &uses.calls)
             || !raise_up(&uses.reached, &mut heights, &uses.calls)

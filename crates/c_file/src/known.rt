@@ -49,9 +49,7 @@ fn outside_flags(alloc: Global, made: &Made<'_>) -> Result<Vec<bool>, Memory>
 {
     let mut flags = Vec::new(alloc);
     for number in 0..made.count() {
-        let Ok(()) = flags.push(is_outside(function_kind(&made.labels, number))) else {
-            return Err(Memory);
-        };
+        flags.push(is_outside(function_kind(&made.labels, number)))?;
     }
     Ok(flags)
 }
@@ -72,14 +70,10 @@ fn add_uses(made: &Made<'_>, uses: &mut Uses, number: u32) -> Result<(), Memory>
 {
     let lines = made.function(number).lines.items();
     add_lines(&mut uses.calls, number, lines)?;
-    let Ok(()) = uses.wide.push(are_wide(lines)) else {
-        return Err(Memory);
-    };
+    uses.wide.push(are_wide(lines))?;
     let kind = function_kind(&made.labels, number);
-    match uses.changing.push(changes_by_itself(kind, lines)) {
-        Ok(()) => Ok(()),
-        Err(_) => Err(Memory),
-    }
+    uses.changing.push(changes_by_itself(kind, lines))?;
+    Ok(())
 }
 
 /// Adds what is known of each function.

@@ -261,15 +261,11 @@ fn print_commented(
         → string_bytes out.new ≡ string_bytes out.old ++ spec.commented_text
         (labels_of made.now.labels) (said_of made.now.said) uses.now.changing.items number g) }
 {
-    let Ok(()) = print_comment(out, &made.said, number) else {
-        return Err(Memory);
-    };
+    print_comment(out, &made.said, number)?;
     let reads = only_reads(made, uses, number);
     let function = made.function(number);
-    match print_function(alloc, out, &made.labels, number, reads, function) {
-        Ok(()) => Ok(()),
-        Err(_) => Err(Memory),
-    }
+    print_function(alloc, out, &made.labels, number, reads, function)?;
+    Ok(())
 }
 
 /// Appends a function where it is written.
@@ -353,9 +349,7 @@ fn print_source(
         made.now.shape.bounds made.now.shape.outputs made.now.shape.notes calls
         (functions_of made.now) uses.now.reached.items uses.now.changing.items) }
 {
-    let Ok(()) = print_front(alloc, out, made, uses, calls, identity) else {
-        return Err(Memory);
-    };
+    print_front(alloc, out, made, uses, calls, identity)?;
     print_functions(alloc, out, made, uses)?;
     Ok(())
 }

@@ -11,10 +11,7 @@ use std::alloc::Global;
 fn boxed(alloc: Global, expr: CExpr) -> Result<Box<CExpr>, Memory>
     ensures { IfOk result (λ holder. holder.value ≡ expr) }
 {
-    match Box::new(alloc, expr) {
-        Ok(holder) => Ok(holder),
-        Err(_) => Err(Memory),
-    }
+    Ok(Box::new(alloc, expr)?)
 }
 
 impl CExpr {

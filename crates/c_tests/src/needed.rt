@@ -24,9 +24,7 @@ pub fn tests_of(alloc: Global, code: &Code, steps: bool, depth: bool) -> Result<
     ensures depth { IfOk result (λ tests. tests.depth ≡ depth) }
 {
     let raw = code.raw();
-    let Ok(after) = vec![in alloc; false; raw.procs.items().len()] else {
-        return Err(Memory);
-    };
+    let after = vec![in alloc; false; raw.procs.items().len()]?;
     let mut tests = Tests {
         steps,
         depth,

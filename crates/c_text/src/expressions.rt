@@ -85,44 +85,14 @@ fn is_compound(expr: &CExpr) -> bool
 fn is_both(expr: &CExpr) -> bool
     ensures { result ≡ spec.is_both (expr_of expr.now) }
 {
-    match expr {
-        CExpr::Both(..) => true,
-        CExpr::Const(..)
-        | CExpr::Field(..)
-        | CExpr::Element(..)
-        | CExpr::Local(..)
-        | CExpr::Cast(..)
-        | CExpr::Minus(..)
-        | CExpr::Bang(..)
-        | CExpr::Calc(..)
-        | CExpr::Divide(..)
-        | CExpr::Bits(..)
-        | CExpr::Compare(..)
-        | CExpr::Either(..)
-        | CExpr::Choose(..) => false,
-    }
+    matches!(expr, CExpr::Both(..))
 }
 
 /// Whether an expression is `||`.
 fn is_either(expr: &CExpr) -> bool
     ensures { result ≡ spec.is_either (expr_of expr.now) }
 {
-    match expr {
-        CExpr::Either(..) => true,
-        CExpr::Const(..)
-        | CExpr::Field(..)
-        | CExpr::Element(..)
-        | CExpr::Local(..)
-        | CExpr::Cast(..)
-        | CExpr::Minus(..)
-        | CExpr::Bang(..)
-        | CExpr::Calc(..)
-        | CExpr::Divide(..)
-        | CExpr::Bits(..)
-        | CExpr::Compare(..)
-        | CExpr::Both(..)
-        | CExpr::Choose(..) => false,
-    }
+    matches!(expr, CExpr::Either(..))
 }
 
 /// Whether an expression is a constant, a local or a cast of exactly that type.

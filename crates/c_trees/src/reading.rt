@@ -43,10 +43,8 @@ fn opened(alloc: Global, has_else: bool, below: Stack) -> Result<Stack, Memory>
         ≡ record { block = c.End; has_else = has_else } ∷ opens_of below) }
 {
     let tree = boxed(alloc, Tree::End)?;
-    match Box::new(alloc, below) {
-        Ok(holder) => Ok(Stack::Top(tree, has_else, holder)),
-        Err(_) => Err(Memory),
-    }
+    let holder = Box::new(alloc, below)?;
+    Ok(Stack::Top(tree, has_else, holder))
 }
 
 /// A statement without parts before others; another line changes nothing.

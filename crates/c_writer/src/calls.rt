@@ -18,10 +18,8 @@ use std::alloc::Global;
 fn one(alloc: Global, argument: CExpr) -> Result<List<CExpr>, Memory>
     ensures { IfOk result (λ list. exprs_of (items_of list) ≡ expr_of argument ∷ []) }
 {
-    match vec![in alloc; argument] {
-        Ok(list) => Ok(List::of(list)),
-        Err(_) => Err(Memory),
-    }
+    let list = vec![in alloc; argument]?;
+    Ok(List::of(list))
 }
 
 /// Five arguments: an event, a depth, a base, a home and a last result.
@@ -36,10 +34,8 @@ pub(crate) fn five(
     ensures { IfOk result (λ list. exprs_of (items_of list)
         ≡ expr_of event ∷ expr_of depth ∷ expr_of base ∷ expr_of home ∷ expr_of last ∷ []) }
 {
-    match vec![in alloc; event, depth, base, home, last] {
-        Ok(list) => Ok(List::of(list)),
-        Err(_) => Err(Memory),
-    }
+    let list = vec![in alloc; event, depth, base, home, last]?;
+    Ok(List::of(list))
 }
 
 /// The same five and the note that is called.
@@ -55,10 +51,8 @@ pub(crate) fn six(
     ensures { IfOk result (λ list. exprs_of (items_of list) ≡ expr_of event ∷ expr_of depth
         ∷ expr_of base ∷ expr_of home ∷ expr_of last ∷ expr_of note ∷ []) }
 {
-    match vec![in alloc; event, depth, base, home, last, note] {
-        Ok(list) => Ok(List::of(list)),
-        Err(_) => Err(Memory),
-    }
+    let list = vec![in alloc; event, depth, base, home, last, note]?;
+    Ok(List::of(list))
 }
 
 /// Appends a return of the fault where the last result tells one.

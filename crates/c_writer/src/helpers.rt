@@ -32,10 +32,8 @@ pub enum Home {
 pub(crate) fn one_word(alloc: Global) -> Result<List<CType>, Memory>
     ensures { IfOk result (λ list. items_of list ≡ spec.word ∷ []) }
 {
-    match vec![in alloc; WORD] {
-        Ok(list) => Ok(List::of(list)),
-        Err(_) => Err(Memory),
-    }
+    let list = vec![in alloc; WORD]?;
+    Ok(List::of(list))
 }
 
 /// Six parameters.
@@ -43,10 +41,8 @@ fn six_words(alloc: Global) -> Result<List<CType>, Memory>
     ensures { IfOk result (λ list. items_of list
         ≡ spec.word ∷ spec.word ∷ spec.word ∷ spec.word ∷ spec.word ∷ spec.word ∷ []) }
 {
-    match vec![in alloc; WORD, WORD, WORD, WORD, WORD, WORD] {
-        Ok(list) => Ok(List::of(list)),
-        Err(_) => Err(Memory),
-    }
+    let list = vec![in alloc; WORD, WORD, WORD, WORD, WORD, WORD]?;
+    Ok(List::of(list))
 }
 
 // ---- the home
@@ -215,10 +211,8 @@ fn floor(alloc: Global, kind: CType) -> Result<CExpr, Memory>
 fn two(alloc: Global, kind: CType) -> Result<List<CType>, Memory>
     ensures { IfOk result (λ list. items_of list ≡ kind ∷ kind ∷ []) }
 {
-    match vec![in alloc; kind, kind] {
-        Ok(list) => Ok(List::of(list)),
-        Err(_) => Err(Memory),
-    }
+    let list = vec![in alloc; kind, kind]?;
+    Ok(List::of(list))
 }
 
 /// The function that divides numbers of a width.

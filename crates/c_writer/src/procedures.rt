@@ -24,10 +24,8 @@ fn five_words(alloc: Global) -> Result<List<CType>, Memory>
     ensures { IfOk result (λ list.
         items_of list ≡ word ∷ word ∷ word ∷ word ∷ word ∷ []) }
 {
-    match vec![in alloc; WORD, WORD, WORD, WORD, WORD] {
-        Ok(list) => Ok(List::of(list)),
-        Err(_) => Err(Memory),
-    }
+    let list = vec![in alloc; WORD, WORD, WORD, WORD, WORD]?;
+    Ok(List::of(list))
 }
 
 /// The lines of a procedure that plays, with the cursor at 0 first.

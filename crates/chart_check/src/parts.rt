@@ -176,8 +176,5 @@ pub fn chart_parts(alloc: Global, resolved: Resolved) -> Result<ChartParts, Memo
     ensures { IfOk result (λ parts. chart_seen parts.shape (names_of parts.names) parts.states.items
         (map (λ j. j.items) parts.junctions.items) ≡ plain.chart_of (resolved_of resolved)) }
 {
-    match build(alloc, resolved) {
-        Ok(parts) => Ok(parts),
-        Err(_) => Err(Memory),
-    }
+    Ok(build(alloc, resolved)?)
 }

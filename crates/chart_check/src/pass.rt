@@ -41,10 +41,8 @@ fn structure_of(alloc: Global, resolved: &Resolved) -> Result<Structure, Memory>
         CountsPairs (nets.net_of (resolved_of resolved.now)) found.pairs) }
 {
     let net = net_of(alloc, resolved)?;
-    match first_fault(alloc, &net) {
-        Ok(found) => Ok(found),
-        Err(_) => Err(Memory),
-    }
+    let found = first_fault(alloc, &net)?;
+    Ok(found)
 }
 
 /// The number of pairs of a resolved chart without faults of types, or its first fault.

@@ -124,8 +124,5 @@ pub fn net_of(alloc: Global, resolved: &Resolved) -> Result<Net<'_>, Memory>
     requires { KeepsPromise (resolved_of resolved.now) }
     ensures { IfOk result (λ n. n ≡ spec.net_of (resolved_of resolved.now)) }
 {
-    match build(alloc, resolved) {
-        Ok(net) => Ok(net),
-        Err(_) => Err(Memory),
-    }
+    Ok(build(alloc, resolved)?)
 }

@@ -9,13 +9,13 @@ use crate::laws::the_code_of_a_chart_is_well_formed;
 use crate::tables::states;
 use actions::copy_names;
 use checked_chart::Chart;
-use code_language::{Code, CodeEnd, RawCode, accept};
+use code_language::{Code, RawCode};
 use continuation_compile::number;
 use flow_base::Memory;
 use state_compile::procedures;
 use std::alloc::Global;
 
-/// The code of a chart, before it is accepted. `Memory` only where memory was refused.
+/// The code of a chart as it is written. `Memory` only where memory was refused.
 fn compile_raw(alloc: Global, chart: &Chart) -> Result<RawCode, Memory>
     ensures code { IfOk result (λ raw. code_of raw ≡ code_of_chart (chart_of chart.now)) }
 {
@@ -49,10 +49,6 @@ pub fn compile(alloc: Global, chart: &Chart) -> Result<Code, Memory>
     let _ = chart.shape();
     the_code_of_a_chart_is_well_formed();
     let raw = compile_raw(alloc, chart)?;
-    match accept(alloc, raw) {
-        Ok(code) => Ok(code),
-        Err(CodeEnd::Memory) => Err(Memory),
-        // The code of a valid chart is well formed.
-        Err(CodeEnd::Fault(_)) => unreachable!(),
-    }
+    let code = Code::of_well_formed(alloc, raw)?;
+    Ok(code)
 }

@@ -50,10 +50,7 @@ pub fn make_case(alloc: Global, n: u32) -> Result<Case, Memory>
     ensures chart { IfOk result (λ case. case.chart ≡ spec.chart_text n) }
     ensures events { IfOk result (λ case. case.events ≡ spec.events_text n) }
 {
-    match print_case(alloc, n) {
-        Ok(case) => Ok(case),
-        Err(_) => Err(Memory),
-    }
+    Ok(print_case(alloc, n)?)
 }
 
 /// Case `n`, its chart before its events.

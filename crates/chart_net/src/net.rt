@@ -59,15 +59,9 @@ impl<G: Engine> Net<G> {
         ensures ok { OnOk result (routes_of self.new ≡ routes_of self.old ++ route ∷ []) }
         ensures err { OnErr result (routes_of self.new ≡ routes_of self.old) }
     {
-        let Ok(ring) = Ring::make(self.alloc, route.cap as usize) else {
-            return Err(Memory);
-        };
-        let Ok(()) = self.routes.reserve(1) else {
-            return Err(Memory);
-        };
-        let Ok(()) = self.rings.push(ring) else {
-            return Err(Memory);
-        };
+        let ring = Ring::make(self.alloc, route.cap as usize)?;
+        self.routes.reserve(1)?;
+        self.rings.push(ring)?;
         self.routes.push_reserved(route);
         Ok(())
     }
@@ -90,18 +84,14 @@ impl<G: Engine + Drop> Net<G> {
         ensures err { OnErr result (charts_of G.Engine self.new ≡ charts_of G.Engine self.old) }
         ensures routes { routes_of self.new ≡ routes_of self.old }
     {
-        let Ok(vals) = InputVals::make(self.alloc, engine.view().names) else {
-            return Err(Memory);
-        };
+        let vals = InputVals::make(self.alloc, engine.view().names)?;
         let seat = Seat {
             name,
             engine,
             vals,
             index: 0,
         };
-        let Ok(()) = self.seats.push(seat) else {
-            return Err(Memory);
-        };
+        self.seats.push(seat)?;
         Ok(())
     }
 }

@@ -36,14 +36,12 @@ impl Ring {
         requires few { cap ≤ CAP_LIMIT }
         ensures { IfOk result (λ ring. ring ≡ record { items = []; cap = cap }) }
     {
-        match vec![in alloc; None; cap] {
-            Ok(places) => Ok(Ring {
-                places,
-                first: 0,
-                count: 0,
-            }),
-            Err(_) => Err(Memory),
-        }
+        let places = vec![in alloc; None; cap]?;
+        Ok(Ring {
+            places,
+            first: 0,
+            count: 0,
+        })
     }
 
     /// Whether there is room for no more.

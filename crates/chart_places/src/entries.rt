@@ -20,10 +20,8 @@ fn push<'a>(
     ensures { OnOk result (map spec.declared_of names.new.items ≡ map spec.declared_of names.old.items
         ++ record { owner = owner; name = name.now } ∷ []) }
 {
-    match names.push(Entry { owner, name }) {
-        Ok(()) => Ok(()),
-        Err(_) => Err(Memory),
-    }
+    names.push(Entry { owner, name })?;
+    Ok(())
 }
 
 /// The names of states, each in its parent.

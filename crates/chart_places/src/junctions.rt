@@ -79,8 +79,5 @@ pub fn junctions_of<'a>(
     requires few { length states.now < 2 ^ 32 }
     ensures { IfOk result (λ v. map owned_of v.items ≡ spec.placed_junctions (map placed_of states.now)) }
 {
-    match collect(alloc, states) {
-        Ok(all) => Ok(all),
-        Err(_) => Err(Memory),
-    }
+    Ok(collect(alloc, states)?)
 }

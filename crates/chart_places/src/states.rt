@@ -31,10 +31,8 @@ fn place_state<'a>(
         return Err(Memory);
     }
     let number = places.len() as u32;
-    match places.push(PlacedState { parent, state }) {
-        Ok(()) => place_below(places, number, state.states.items()),
-        Err(_) => Err(Memory),
-    }
+    places.push(PlacedState { parent, state })?;
+    place_below(places, number, state.states.items())
 }
 
 /// Appends child states of a state, and those below them.

@@ -61,12 +61,8 @@ pub fn shape_of(alloc: Global, states: &[PlacedState<'_>]) -> Result<Shape, Memo
     requires tree { IsTree (spec.placed_tree (map placed_of states.now)) }
     ensures { IfOk result (λ t. t ≡ spec.placed_tree (map placed_of states.now)) }
 {
-    let Ok(parents) = parents(alloc, states) else {
-        return Err(Memory);
-    };
-    let Ok(comps) = comps(alloc, states) else {
-        return Err(Memory);
-    };
+    let parents = parents(alloc, states)?;
+    let comps = comps(alloc, states)?;
     match Shape::make(alloc, parents, comps) {
         Ok(shape) => Ok(shape),
         Err(_) => Err(Memory),

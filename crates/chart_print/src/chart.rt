@@ -18,10 +18,8 @@ pub fn print_chart(alloc: Global, chart: &ChartText) -> Result<String, Memory>
     ensures { IfOk result (λ text. string_bytes text ≡ spec.canonical (chart_of chart.now)) }
 {
     let mut printer = Printer::new(alloc);
-    match printer.chart(chart) {
-        Ok(()) => Ok(printer.into_text()),
-        Err(_) => Err(Memory),
-    }
+    printer.chart(chart)?;
+    Ok(printer.into_text())
 }
 
 impl Printer {

@@ -66,7 +66,7 @@ fn send_serves(plan: &Plan, code: &RawCode, place: Place, event: u32) -> bool
     let sent = Facts {
         home: Some(0),
         event: EventFact::Is(Event::Named(event)),
-        is_rooted: place.facts.is_rooted,
+        ..place.facts
     };
     if place.facts.is_rooted {
         serves(plan, sent, code.react, place.copy)
@@ -112,15 +112,14 @@ fn is_instr_right(
             let sent = Facts {
                 home: Some(0),
                 event: EventFact::Is(Event::Named(*event)),
-                is_rooted: facts.is_rooted,
+                ..facts
             };
             serves(plan, sent, *proc, place.copy) && hands_on(&plan.sets, facts, rest, 0)
         }
         Instr::Home(home) => {
             let at_home = Facts {
                 home: Some(*home),
-                event: facts.event,
-                is_rooted: facts.is_rooted,
+                ..facts
             };
             hands_on(&plan.sets, at_home, rest, 0)
         }

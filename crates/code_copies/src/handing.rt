@@ -59,9 +59,8 @@ fn event_hands_on(
     match told(sets, facts.event, event) {
         None => {
             let found = Facts {
-                home: facts.home,
                 event: EventFact::Is(Event::Named(event)),
-                is_rooted: facts.is_rooted,
+                ..facts
             };
             hands_on(sets, found, rest, 0) && hands_on_without(sets, event, facts, rest, over)
         }

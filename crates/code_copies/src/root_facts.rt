@@ -35,9 +35,8 @@ fn know_root(is_rooted: bool, facts: Facts) -> Facts
         → facts_of sets result ≡ spec.know_root is_rooted (facts_of sets facts) }
 {
     Facts {
-        home: facts.home,
-        event: facts.event,
         is_rooted: facts.is_rooted || is_rooted,
+        ..facts
     }
 }
 

@@ -85,9 +85,7 @@ fn tested_flags(alloc: Global, raw: &RawCode) -> Result<Vec<bool>, Memory>
         ≡ spec.set_all (spec.tested_in (code_of raw.now).procedures.procs)
         (replicate (length (code_of raw.now).names.events) false)) }
 {
-    let Ok(mut flags) = vec![in alloc; false; raw.events.items().len()] else {
-        return Err(Memory);
-    };
+    let mut flags = vec![in alloc; false; raw.events.items().len()]?;
     for instrs in raw.procs.items() {
         set_tested(&mut flags, instrs.items());
     }
@@ -102,9 +100,7 @@ fn numbers_of(alloc: Global, flags: &[bool]) -> Result<Vec<u32>, Memory>
     let mut numbers = Vec::new(alloc);
     for (number, is_set) in flags.iter().enumerate() {
         if *is_set {
-            let Ok(()) = numbers.push(number as u32) else {
-                return Err(Memory);
-            };
+            numbers.push(number as u32)?;
         }
     }
     Ok(numbers)

@@ -152,10 +152,7 @@ impl Search {
 
 /// A row of so many places, with nothing at them.
 fn empty_row(alloc: Global, places: usize) -> Result<Vec<Mark>, Memory> {
-    match vec![in alloc; Mark { left: 0, owed: 0 }; places] {
-        Ok(row) => Ok(row),
-        Err(_) => Err(Memory),
-    }
+    Ok(vec![in alloc; Mark { left: 0, owed: 0 }; places]?)
 }
 
 /// A row for each procedure, with nothing at its places.
@@ -163,9 +160,7 @@ fn empty_rows(alloc: Global, procs: &[List<Instr>]) -> Result<Vec<Vec<Mark>>, Me
     let mut rows = Vec::new(alloc);
     for instrs in procs {
         let row = empty_row(alloc, instrs.items().len())?;
-        let Ok(()) = rows.push(row) else {
-            return Err(Memory);
-        };
+        rows.push(row)?;
     }
     Ok(rows)
 }

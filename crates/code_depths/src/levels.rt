@@ -91,9 +91,7 @@ fn rounds_for(procs: &[List<Instr>]) -> usize {
 /// and the greatest number for one that is never reached.
 pub(crate) fn levels_of(alloc: Global, code: &RawCode) -> Result<Vec<u32>, Memory> {
     let procs = code.procs.items();
-    let Ok(mut levels) = vec![in alloc; u32::MAX; procs.len()] else {
-        return Err(Memory);
-    };
+    let mut levels = vec![in alloc; u32::MAX; procs.len()]?;
     lower(&mut levels, code.start, 0);
     lower(&mut levels, code.react, 0);
     for _ in 0..rounds_for(procs) {

@@ -91,8 +91,7 @@ fn joined(
 {
     Ok(ReadExpr {
         expr: Expr::Bin(op, first, Box::new(alloc, second.expr)?),
-        left: second.left,
-        rest: second.rest,
+        ..second
     })
 }
 
@@ -114,8 +113,7 @@ fn negated(alloc: Global, first: ReadExpr<'_>) -> Result<ReadExpr<'_>, AllocErro
 {
     Ok(ReadExpr {
         expr: Expr::Neg(Box::new(alloc, first.expr)?),
-        left: first.left,
-        rest: first.rest,
+        ..first
     })
 }
 
@@ -125,7 +123,6 @@ fn denied(alloc: Global, first: ReadExpr<'_>) -> Result<ReadExpr<'_>, AllocError
 {
     Ok(ReadExpr {
         expr: Expr::Not(Box::new(alloc, first.expr)?),
-        left: first.left,
-        rest: first.rest,
+        ..first
     })
 }

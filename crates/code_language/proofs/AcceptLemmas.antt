@@ -126,7 +126,10 @@ module _ (k : Code) (code : IsCode k) where
   pub react_known : k.procedures.react < length k.procedures.procs
   react_known = ltb-true _ _ (and_parts (nat_lt k.procedures.start (length k.procedures.procs)) _ both_known).1
 
+  -- no procedure has a fault
+  pub none_in_procs : procs_fault (known_of k) 0 k.procedures.procs ≡ None
+  none_in_procs = (first_none (procs_fault (known_of k) 0 k.procedures.procs) _ after_starts).0
+
   -- each procedure is sound
   pub procs_sound : AreProcs (known_of k) 0 k.procedures.procs
-  procs_sound = procs_right (known_of k) 0 k.procedures.procs
-      (first_none (procs_fault (known_of k) 0 k.procedures.procs) _ after_starts).0
+  procs_sound = procs_right (known_of k) 0 k.procedures.procs none_in_procs

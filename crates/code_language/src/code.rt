@@ -43,7 +43,8 @@ pub struct CodeParts {
     pub shape: Shape,
 }
 
-/// Code that is well formed. A contract sees what is written; `accept` makes it.
+/// Code that is well formed. A contract sees what is written; `accept` makes it of any code that is
+/// well formed, and `of_well_formed` of code that is known to be.
 #[derive(Drop)]
 pub struct Code {
     raw: RawCode,

@@ -1,9 +1,10 @@
 //! Code: procedures of instructions, what it means, which code is well formed, what a run of it
 //! costs, and how a run of it is compared with a piece of work of a run by the rules.
 //!
-//! `accept` makes a `Code` exactly of what is well formed. Read `specs/Instrs.antt` and
-//! `specs/Code.antt`, what code is; `specs/Machine.antt` and `specs/Reactions.antt`, what it means;
-//! `specs/Measures.antt`, its height and its work; and `specs/WellFormed.antt`, its faults.
+//! `accept` makes a `Code` exactly of what is well formed, and `Code::of_well_formed` of what is
+//! proved to be. Read `specs/Instrs.antt` and `specs/Code.antt`, what code is; `specs/Machine.antt`
+//! and `specs/Reactions.antt`, what it means; `specs/Measures.antt`, its height and its work; and
+//! `specs/WellFormed.antt`, its faults.
 //!
 //! - `cost_laws`: how many instructions an event takes and how many frames there are at once, and
 //!   what is true at each moment, which the machine that runs code relies on. Read

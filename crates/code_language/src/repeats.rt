@@ -21,10 +21,8 @@ fn is_first<'a>(
     ensures seen { IfOk result (λ first. first ≡ true → map spec.named_of seen.new.keys
         ≡ map spec.named_of seen.old.keys ++ spec.named owner name.now ∷ []) }
 {
-    match seen.insert((owner, name.text())) {
-        Ok(first) => Ok(first),
-        Err(_) => Err(Memory),
-    }
+    let first = seen.insert((owner, name.text()))?;
+    Ok(first)
 }
 
 /// Whether no name stands twice among data and events, each of which is marked up to the first name

@@ -140,6 +140,20 @@ fn states_shape(alloc: Global, states: &[RawState]) -> Result<Option<Shape>, Mem
     }
 }
 
+/// The tree of states that are one, and not too many.
+pub fn tree_shape(alloc: Global, states: &[RawState]) -> Result<Shape, Memory>
+    requires short { length states.now ≤ STATE_LIMIT }
+    requires tree { IsTree (tree_of_states states.now) }
+    ensures { IfOk result (λ shape. shape ≡ tree_of_states states.now) }
+{
+    match shape_of(alloc, states) {
+        Ok(shape) => Ok(shape),
+        Err(ShapeFault::Memory) => Err(Memory),
+        // The states are a tree.
+        Err(ShapeFault::NotATree) => unreachable!(),
+    }
+}
+
 /// Whether the first state has no parent, and every other one has one.
 fn has_parents(states: &[RawState]) -> bool
     ensures { result ≡ spec.has_parents states.now }

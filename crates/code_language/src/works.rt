@@ -91,9 +91,7 @@ fn work_of(alloc: Global, works: &[u64], instrs: &[Instr]) -> Result<u64, Memory
     let mut lefts = Vec::new(alloc);
     for place in (0..instrs.len()).rev() {
         let left = work_from(works, &instrs[place], &lefts);
-        let Ok(()) = lefts.push(left) else {
-            return Err(Memory);
-        };
+        lefts.push(left)?;
     }
     Ok(left_past(&lefts, 0))
 }

@@ -24,9 +24,7 @@ pub(crate) fn own_numbers(alloc: Global, count: usize) -> Result<Vec<u32>, Memor
 {
     let mut numbers = Vec::new(alloc);
     for p in 0..count {
-        let Ok(()) = numbers.push(p as u32) else {
-            return Err(Memory);
-        };
+        numbers.push(p as u32)?;
     }
     Ok(numbers)
 }
@@ -75,9 +73,7 @@ fn find_once(alloc: Global, procs: &[List<Instr>], numbers: &mut Vec<u32>) -> Re
         } else if let Some(first) = firsts.get(&sum).copied() {
             numbers[p] = stand_in(procs, numbers, first, p as u32);
         } else {
-            let Ok(_) = firsts.insert(sum, p as u32) else {
-                return Err(Memory);
-            };
+            firsts.insert(sum, p as u32)?;
             numbers[p] = p as u32;
         }
     }

@@ -8,7 +8,7 @@ ghost use Rattle.code_merging.specs.Merged.{AreEqual, IsMerged, merged_code, und
 ghost use Rattle.code_shrink.specs.Numbers.{number_by};
 
 use crate::finding::{is_table, own_numbers, table_of};
-use code_language::{Code, CodeEnd, Instr, RawCode, accept};
+use code_language::{Code, Instr, RawCode};
 use code_shrink::{number_at, renamed_instr};
 use flow_base::{List, Memory};
 use std::alloc::Global;
@@ -22,9 +22,7 @@ fn renamed_instrs(alloc: Global, instrs: &[Instr], numbers: &[u32]) -> Result<Ve
     let mut made = Vec::new(alloc);
     for instr in instrs {
         let renamed = renamed_instr(alloc, instr, numbers)?;
-        let Ok(()) = made.push(renamed) else {
-            return Err(Memory);
-        };
+        made.push(renamed)?;
     }
     Ok(made)
 }
@@ -47,7 +45,7 @@ fn renamed_procs(
     Ok(made)
 }
 
-/// The code in which procedures stand for others, before it is accepted.
+/// The code in which procedures stand for others, as it is written.
 fn merged_raw(alloc: Global, raw: RawCode, numbers: &[u32]) -> Result<RawCode, Memory>
     requires { 0 < length numbers.now }
     ensures { IfOk result (λ made. code_of made
@@ -71,13 +69,9 @@ fn by_table(alloc: Global, code: Code, numbers: &[u32]) -> Result<Code, Memory>
     ensures { IfOk result (λ made. code_of made
         ≡ merged_code (number_by numbers.now) (code_of code)) }
 {
-    let made = merged_raw(alloc, code.into_raw(), numbers)?;
-    match accept(alloc, made) {
-        Ok(code) => Ok(code),
-        Err(CodeEnd::Memory) => Err(Memory),
-        // The code is well formed.
-        Err(CodeEnd::Fault(_)) => unreachable!(),
-    }
+    let raw = merged_raw(alloc, code.into_raw(), numbers)?;
+    let made = Code::of_well_formed(alloc, raw)?;
+    Ok(made)
 }
 
 /// Code in which equal procedures are one, and which one it is.

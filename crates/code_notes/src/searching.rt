@@ -14,9 +14,7 @@ use std::alloc::Global;
 fn copy_list(alloc: Global, list: &[u32]) -> Result<Vec<u32>, Memory> {
     let mut copy = Vec::new(alloc);
     for note in list {
-        let Ok(()) = copy.push(*note) else {
-            return Err(Memory);
-        };
+        copy.push(*note)?;
     }
     Ok(copy)
 }
@@ -55,13 +53,9 @@ impl Players {
             *last = Some(number);
         }
         let copy = copy_list(alloc, notes)?;
-        let Ok(()) = self.players.push(copy) else {
-            return Err(Memory);
-        };
-        match self.played.push(proc) {
-            Ok(()) => Ok(number),
-            Err(_) => Err(Memory),
-        }
+        self.players.push(copy)?;
+        self.played.push(proc)?;
+        Ok(number)
     }
 }
 
@@ -96,9 +90,7 @@ fn with_players(
     raw: &RawCode,
     mut spread: Spread,
 ) -> Result<Option<KnownNotes>, Memory> {
-    let Ok(of_list) = vec![in alloc; None; spread.table.count()] else {
-        return Err(Memory);
-    };
+    let of_list = vec![in alloc; None; spread.table.count()]?;
     let mut players = Players {
         of_list,
         players: Vec::new(alloc),

@@ -32,9 +32,7 @@ pub(crate) fn own_tags(alloc: Global, code: &Code) -> Result<Vec<Tag>, Memory>
     let count = code.raw().procs.items().len() as u32;
     let mut tags = Vec::new(alloc);
     for proc in 0..count {
-        let Ok(()) = tags.push(own_tag(proc)) else {
-            return Err(Memory);
-        };
+        tags.push(own_tag(proc))?;
     }
     Ok(tags)
 }
@@ -46,9 +44,7 @@ pub(crate) fn tags_at(alloc: Global, tags: &[Tag], origins: &[u32]) -> Result<Ve
 {
     let mut found = Vec::new(alloc);
     for origin in origins {
-        let Ok(()) = found.push(tags[*origin as usize]) else {
-            return Err(Memory);
-        };
+        found.push(tags[*origin as usize])?;
     }
     Ok(found)
 }
@@ -73,9 +69,7 @@ fn shared_flags(alloc: Global, numbers: &[u32]) -> Result<Vec<bool>, Memory>
     ensures each { IfOk result (λ flags. EachIndex flags.items
         (λ p. slice_index_or flags.items p false ≡ spec.has_other p 0 numbers.now)) }
 {
-    let Ok(mut flags) = vec![in alloc; false; numbers.len()] else {
-        return Err(Memory);
-    };
+    let mut flags = vec![in alloc; false; numbers.len()]?;
     for (proc, number) in numbers.iter().enumerate() {
         mark_other(&mut flags, proc, *number as usize);
     }
@@ -87,11 +81,8 @@ fn with_shared(tag: Tag, is_shared: bool) -> Tag
     ensures { result ≡ spec.with_shared is_shared tag }
 {
     Tag {
-        proc: tag.proc,
-        home: tag.home,
-        event: tag.event,
         shared: tag.shared || is_shared,
-        plays: tag.plays,
+        ..tag
     }
 }
 
@@ -104,9 +95,7 @@ fn shared_by(alloc: Global, tags: &[Tag], flags: &[bool]) -> Result<Vec<Tag>, Me
 {
     let mut shared = Vec::new(alloc);
     for proc in 0..tags.len() {
-        let Ok(()) = shared.push(with_shared(tags[proc], flags[proc])) else {
-            return Err(Memory);
-        };
+        shared.push(with_shared(tags[proc], flags[proc]))?;
     }
     Ok(shared)
 }
@@ -125,11 +114,9 @@ fn with_plays(tag: Tag) -> Tag
     ensures { result ≡ spec.with_plays tag }
 {
     Tag {
-        proc: tag.proc,
         home: None,
-        event: tag.event,
-        shared: tag.shared,
         plays: true,
+        ..tag
     }
 }
 
@@ -139,13 +126,9 @@ pub(crate) fn after_plays(alloc: Global, front: &[Tag], tags: &[Tag]) -> Result<
 {
     let mut all = Vec::new(alloc);
     for tag in front {
-        let Ok(()) = all.push(with_plays(*tag)) else {
-            return Err(Memory);
-        };
+        all.push(with_plays(*tag))?;
     }
-    let Ok(()) = all.extend_from_slice(tags) else {
-        return Err(Memory);
-    };
+    all.extend_from_slice(tags)?;
     Ok(all)
 }
 
@@ -202,11 +185,9 @@ fn copy_tag(sets: &[Vec<u32>], tag: Tag, key: CopyKey) -> Tag
     ensures { result ≡ spec.copy_tag (facts_of sets.now key.facts) tag }
 {
     Tag {
-        proc: tag.proc,
         home: home_tag(tag.home, key.facts.home),
         event: both_events(tag.event, event_tag(sets, key.facts.event)),
-        shared: tag.shared,
-        plays: tag.plays,
+        ..tag
     }
 }
 
@@ -225,9 +206,7 @@ pub(crate) fn copy_tags(
     let mut made = Vec::new(alloc);
     for copy in &plan.copies {
         let tag = tags[copy.key.proc as usize];
-        let Ok(()) = made.push(copy_tag(&plan.sets, tag, copy.key)) else {
-            return Err(Memory);
-        };
+        made.push(copy_tag(&plan.sets, tag, copy.key))?;
     }
     Ok(made)
 }

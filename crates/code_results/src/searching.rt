@@ -15,9 +15,7 @@ const UNREACHED: Place = Place {
 
 /// The places of a procedure, of which only the first one is reached yet.
 fn started_places(alloc: Global, instrs: &[Instr]) -> Result<Vec<Place>, Memory> {
-    let Ok(mut places) = vec![in alloc; UNREACHED; instrs.len()] else {
-        return Err(Memory);
-    };
+    let mut places = vec![in alloc; UNREACHED; instrs.len()]?;
     if let Some(first) = places.first_mut() {
         first.results = Results::Any;
     }
@@ -29,9 +27,7 @@ fn all_places(alloc: Global, raw: &RawCode) -> Result<Vec<Vec<Place>>, Memory> {
     let mut all = Vec::new(alloc);
     for instrs in raw.procs.items() {
         let places = started_places(alloc, instrs.items())?;
-        let Ok(()) = all.push(places) else {
-            return Err(Memory);
-        };
+        all.push(places)?;
     }
     Ok(all)
 }
@@ -43,12 +39,8 @@ fn all_places(alloc: Global, raw: &RawCode) -> Result<Vec<Vec<Place>>, Memory> {
 pub(crate) fn find(alloc: Global, raw: &RawCode) -> Result<KnownResults, Memory> {
     let count = raw.procs.items().len();
     let mut places = all_places(alloc, raw)?;
-    let Ok(mut returns) = vec![in alloc; Results::Nothing; count] else {
-        return Err(Memory);
-    };
-    let Ok(mut begins) = vec![in alloc; true; count] else {
-        return Err(Memory);
-    };
+    let mut returns = vec![in alloc; Results::Nothing; count]?;
+    let mut begins = vec![in alloc; true; count]?;
     spread(raw, &mut places, &mut returns);
     read(raw, &mut places, &mut begins);
     leave_out(raw, &mut places);

@@ -54,15 +54,11 @@ fn all_ways(alloc: Global, code: &Code) -> Result<Vec<Vec<Way>>, Memory>
     let raw = code.raw();
     // A constant test reads no datum and no mark, so any serve.
     let vals = no_data(alloc)?;
-    let Ok(marks) = Marks::make(alloc, code.shape()) else {
-        return Err(Memory);
-    };
+    let marks = Marks::make(alloc, code.shape())?;
     let mut all = Vec::new(alloc);
     for procedure in raw.procs.items() {
         let ways = ways_of(alloc, procedure.items(), &vals, &marks)?;
-        let Ok(()) = all.push(ways) else {
-            return Err(Memory);
-        };
+        all.push(ways)?;
     }
     Ok(all)
 }
@@ -77,9 +73,7 @@ fn all_places(alloc: Global, ways: &[Vec<Way>]) -> Result<Vec<Vec<bool>>, Memory
     let mut all = Vec::new(alloc);
     for own in ways {
         let flags = reached_places(alloc, own)?;
-        let Ok(()) = all.push(flags) else {
-            return Err(Memory);
-        };
+        all.push(flags)?;
     }
     Ok(all)
 }
@@ -90,9 +84,7 @@ fn started(alloc: Global, code: &RawCode) -> Result<Search, Memory>
     ensures { (flags : List (List Bool)) → IfOk result
         (spec.IsSearch (code_of code.now).procedures flags) }
 {
-    let Ok(found) = vec![in alloc; false; code.procs.items().len()] else {
-        return Err(Memory);
-    };
+    let found = vec![in alloc; false; code.procs.items().len()]?;
     let mut search = Search {
         found,
         todo: Vec::new(alloc),

@@ -17,17 +17,13 @@ pub(crate) fn numbers_of(alloc: Global, live: &[bool]) -> Result<Vec<u32>, Memor
     let mut numbers = Vec::new(alloc);
     let mut number: u32 = 0;
     for is_live in live {
-        let Ok(()) = numbers.push(number) else {
-            return Err(Memory);
-        };
+        numbers.push(number)?;
         if *is_live {
             number += 1;
         }
     }
-    match numbers.push(number) {
-        Ok(()) => Ok(numbers),
-        Err(_) => Err(Memory),
-    }
+    numbers.push(number)?;
+    Ok(numbers)
 }
 
 /// The new number of a procedure. One past the last procedure, which no code names, gets the last

@@ -14,9 +14,7 @@ pub(crate) fn origins_of(alloc: Global, live: &[bool]) -> Result<Vec<u32>, Memor
     let mut origins = Vec::new(alloc);
     for (proc, is_live) in live.iter().enumerate() {
         if *is_live {
-            let Ok(()) = origins.push(proc as u32) else {
-                return Err(Memory);
-            };
+            origins.push(proc as u32)?;
         }
     }
     Ok(origins)

@@ -89,9 +89,7 @@ pub fn reached_places(alloc: Global, ways: &[Way]) -> Result<Vec<bool>, Memory>
     ensures { (t : List Instr) → map way_of t ≡ ways.now
         → IfOk result (λ flags. AreReached t flags.items) }
 {
-    let Ok(mut flags) = vec![in alloc; false; ways.len()] else {
-        return Err(Memory);
-    };
+    let mut flags = vec![in alloc; false; ways.len()]?;
     mark_reached(&mut flags, ways);
     Ok(flags)
 }

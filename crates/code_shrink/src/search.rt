@@ -27,10 +27,8 @@ impl Search {
             return Ok(());
         }
         self.found[proc as usize] = true;
-        match self.todo.push(proc) {
-            Ok(()) => Ok(()),
-            Err(_) => Err(Memory),
-        }
+        self.todo.push(proc)?;
+        Ok(())
     }
 
     /// Finds a note, where there is one.

@@ -18,7 +18,7 @@ use crate::numbers::{number_at, numbers_of};
 use crate::origins::origins_of;
 use crate::smaller::smaller_procedure;
 use crate::tables::with_procedures;
-use code_language::{Code, CodeEnd, Instr, RawCode, accept};
+use code_language::{Code, Instr, RawCode};
 use flow_base::{List, Memory};
 use std::alloc::Global;
 
@@ -34,8 +34,7 @@ pub struct Shrunk {
 /// Smaller code of the same meaning: constant tests are decided, jumps lead past jumps, and only
 /// what is reached then is left. A test that divides by zero stays, since it is a fault of the run.
 ///
-/// Its time and its memory grow with the code, as those of `accept` do. `Memory` only where memory
-/// was refused.
+/// Its time and its memory grow with the code. `Memory` only where memory was refused.
 ///
 /// Source: this project's choice.
 pub fn shrink(alloc: Global, code: &Code) -> Result<Code, Memory>
@@ -47,8 +46,7 @@ pub fn shrink(alloc: Global, code: &Code) -> Result<Code, Memory>
 
 /// The smaller code that `shrink` gives, with the numbers that its procedures had.
 ///
-/// Its time and its memory grow with the code, as those of `accept` do. `Memory` only where memory
-/// was refused.
+/// Its time and its memory grow with the code. `Memory` only where memory was refused.
 ///
 /// Source: this project's choice.
 pub fn shrink_with_origins(alloc: Global, code: &Code) -> Result<Shrunk, Memory>
@@ -58,15 +56,11 @@ pub fn shrink_with_origins(alloc: Global, code: &Code) -> Result<Shrunk, Memory>
 {
     let made = smaller_raw(alloc, code)?;
     let origins = made.origins;
-    match accept(alloc, made.raw) {
-        Ok(code) => Ok(Shrunk { code, origins }),
-        Err(CodeEnd::Memory) => Err(Memory),
-        // The smaller code is well formed.
-        Err(CodeEnd::Fault(_)) => unreachable!(),
-    }
+    let code = Code::of_well_formed(alloc, made.raw)?;
+    Ok(Shrunk { code, origins })
 }
 
-/// The smaller code before it is accepted, and where its procedures come from.
+/// The smaller code as it is written, and where its procedures come from.
 #[derive(Drop)]
 struct Made {
     /// The smaller code.
@@ -75,7 +69,7 @@ struct Made {
     origins: Vec<u32>,
 }
 
-/// The smaller code, before it is accepted.
+/// The smaller code, as it is written.
 fn smaller_raw(alloc: Global, code: &Code) -> Result<Made, Memory>
     ensures shrunk { IfOk result (λ made. IsShrunk (code_of code.now) (code_of made.raw)) }
     ensures origins { IfOk result (λ made. HadNumbers (code_of code.now).procedures

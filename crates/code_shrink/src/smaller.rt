@@ -85,14 +85,10 @@ pub(crate) fn smaller_procedure(
         let kept = is_kept(flags[place], way, &counts);
         if kept {
             let instr = recounted(alloc, &instrs[place], way, &counts, numbers)?;
-            let Ok(()) = smaller.push(instr) else {
-                return Err(Memory);
-            };
+            smaller.push(instr)?;
         }
         let count = count_from(&counts, kept);
-        let Ok(()) = counts.push(count) else {
-            return Err(Memory);
-        };
+        counts.push(count)?;
     }
     smaller.reverse();
     Ok(smaller)

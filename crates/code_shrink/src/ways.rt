@@ -119,9 +119,7 @@ pub fn ways_of(
     for place in (0..instrs.len()).rev() {
         let decided = decided_way(&instrs[place], vals, marks);
         let way = led(decided, &ways);
-        let Ok(()) = ways.push(way) else {
-            return Err(Memory);
-        };
+        ways.push(way)?;
     }
     ways.reverse();
     Ok(ways)

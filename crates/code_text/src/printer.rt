@@ -23,10 +23,8 @@ pub fn print_code(alloc: Global, code: &Code) -> Result<String, Memory>
     // So it can be read again, where it isn't too long.
     ensures spellable { OnOk result (spec.IsSpellable Two (written_of code.now)) }
 {
-    match print_raw(alloc, code.raw()) {
-        Ok(text) => Ok(text),
-        Err(_) => Err(Memory),
-    }
+    let text = print_raw(alloc, code.raw())?;
+    Ok(text)
 }
 
 /// The one spelling of code in format 2, well formed or not.

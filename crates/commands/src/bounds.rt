@@ -73,18 +73,12 @@ fn bounds_line(alloc: Global, need: Need) -> Result<String, Memory>
     ensures { IfOk result (λ line. string_bytes line ≡ need_line (Some need)) }
 {
     let Need { depth, steps } = need;
-    match format!(in alloc; "depth {depth} steps {steps}\n") {
-        Ok(line) => Ok(line),
-        Err(_) => Err(Memory),
-    }
+    Ok(format!(in alloc; "depth {depth} steps {steps}\n")?)
 }
 
 /// The line of a chart without bounds.
 fn no_bounds_line(alloc: Global) -> Result<String, Memory>
     ensures { IfOk result (λ line. string_bytes line ≡ need_line None) }
 {
-    match format!(in alloc; "no bounds\n") {
-        Ok(line) => Ok(line),
-        Err(_) => Err(Memory),
-    }
+    Ok(format!(in alloc; "no bounds\n")?)
 }

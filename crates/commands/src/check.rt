@@ -60,11 +60,8 @@ fn counts_line(alloc: Global, chart: &Chart, pairs: u32) -> Result<String, Memor
     let transitions = transition_count(chart);
     let line = format!(in alloc;
         "ok {states} states {junctions} junctions {transitions} transitions {pairs} pairs\n"
-    );
-    match line {
-        Ok(line) => Ok(line),
-        Err(_) => Err(Memory),
-    }
+    )?;
+    Ok(line)
 }
 
 /// How many transitions a chart has.

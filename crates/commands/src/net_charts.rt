@@ -107,10 +107,8 @@ fn read_file<I: Inputs>(
 pub(crate) fn copy_text(alloc: Global, text: &str) -> Result<Text, Memory>
     ensures { IfOk result (λ copy. copy ≡ text.now) }
 {
-    match String::from_str(alloc, text) {
-        Ok(text) => Ok(Text::of(text)),
-        Err(_) => Err(Memory),
-    }
+    let text = String::from_str(alloc, text)?;
+    Ok(Text::of(text))
 }
 
 /// The chart of the file of that name, if the file was read.

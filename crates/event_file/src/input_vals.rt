@@ -52,23 +52,17 @@ impl InputVals {
         ensures none { IfOk result (λ vals. vals.values ≡ no_inputs (names_of names.now)) }
         ensures made { IfOk result (IsMadeFor (names_of names.now)) }
     {
-        let Ok(events) = number_events(alloc, names.events.items()) else {
-            return Err(Memory);
-        };
-        let Ok(vars) = number_data(alloc, names.vars.items()) else {
-            return Err(Memory);
-        };
-        match vec![in alloc; None; names.vars.items().len()] {
-            Ok(values) => Ok(InputVals {
-                values,
-                named: [0; NAMED_LIMIT],
-                count: 0,
-                more: false,
-                events,
-                vars,
-            }),
-            Err(_) => Err(Memory),
-        }
+        let events = number_events(alloc, names.events.items())?;
+        let vars = number_data(alloc, names.vars.items())?;
+        let values = vec![in alloc; None; names.vars.items().len()]?;
+        Ok(InputVals {
+            values,
+            named: [0; NAMED_LIMIT],
+            count: 0,
+            more: false,
+            events,
+            vars,
+        })
     }
 
     /// The value that the line gives the datum. None where it gives it none. It takes no memory.

@@ -88,9 +88,7 @@ impl LineReader {
     pub fn make(alloc: Global) -> Result<LineReader, Memory>
         ensures { IfOk result (λ reader. reader ≡ spec.unused) }
     {
-        let Ok(buffer) = vec![in alloc; 0; BUFFER_SIZE] else {
-            return Err(Memory);
-        };
+        let buffer = vec![in alloc; 0; BUFFER_SIZE]?;
         Ok(LineReader {
             buffer,
             first: 0,

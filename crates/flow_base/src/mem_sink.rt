@@ -53,17 +53,15 @@ impl MemSink {
         ensures empty { IfOk result (λ sink. ⟦<MemSink as Sink>⟧.wrote sink ≡ Some []) }
         ensures quiet { IfOk result (λ sink. ⟦<MemSink as Sink>⟧.faults sink ≡ 0) }
     {
-        match Vec::with_capacity(alloc, room) {
-            Ok(bytes) => Ok(MemSink {
-                bytes,
-                room,
-                piece,
-                fail,
-                writes: 0,
-                failed: 0,
-            }),
-            Err(_) => Err(Memory),
-        }
+        let bytes = Vec::with_capacity(alloc, room)?;
+        Ok(MemSink {
+            bytes,
+            room,
+            piece,
+            fail,
+            writes: 0,
+            failed: 0,
+        })
     }
 
     /// All that was written. It takes no memory.

@@ -65,9 +65,7 @@ fn measured_code(
 {
     // Only the proof reads the names: the chart is valid.
     let _ = chart.names();
-    let Ok(mut inputs) = file_of(alloc, events) else {
-        return Err(Memory);
-    };
+    let mut inputs = file_of(alloc, events)?;
     let mut out = TraceBytes::new(alloc);
     let end = run_printed(alloc, chart, bounds, "", &mut inputs, &mut out);
     measures_of(end, &out)
@@ -84,9 +82,7 @@ fn measured_rules(
 {
     // Only the proof reads the names: the chart is valid.
     let _ = chart.names();
-    let Ok(mut inputs) = file_of(alloc, events) else {
-        return Err(Memory);
-    };
+    let mut inputs = file_of(alloc, events)?;
     let mut out = TraceBytes::new(alloc);
     let end = run_rules(alloc, chart, bounds, &mut inputs, &mut out);
     measures_of(end, &out)

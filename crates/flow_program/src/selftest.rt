@@ -63,11 +63,8 @@ fn line_of(alloc: Global, n: u32, states: u32, measures: &Measures) -> Result<St
     let result = result_of(&measures.fault);
     let line = format!(in alloc;
         "selftest {n}: {states} states, {events} events, {trace_bytes} trace bytes, {result}\n"
-    );
-    match line {
-        Ok(line) => Ok(line),
-        Err(_) => Err(Memory),
-    }
+    )?;
+    Ok(line)
 }
 
 /// The result in the last line of a trace, by the fault that ended the run.

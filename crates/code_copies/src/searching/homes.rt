@@ -23,10 +23,8 @@ impl FoundProcedures {
             return Ok(());
         }
         *flag = true;
-        match self.todo.push(proc) {
-            Ok(()) => Ok(()),
-            Err(_) => Err(Memory),
-        }
+        self.todo.push(proc)?;
+        Ok(())
     }
 
     /// Finds procedures.
@@ -128,9 +126,7 @@ pub(crate) fn callee_of(instr: &Instr) -> Option<u32> {
 
 /// The places of a procedure that are reached with the home with which it begins, each marked.
 fn first_home_places(alloc: Global, instrs: &[Instr]) -> Result<Vec<bool>, Memory> {
-    let Ok(mut flags) = vec![in alloc; false; instrs.len()] else {
-        return Err(Memory);
-    };
+    let mut flags = vec![in alloc; false; instrs.len()]?;
     mark(&mut flags, 0);
     for (place, instr) in instrs.iter().enumerate() {
         if flags.get(place).copied() == Some(true) {
@@ -210,9 +206,7 @@ fn find_lookers(
 /// For each procedure whether it, or what it calls or visits, looks at the home with which it
 /// begins before a home is set.
 pub(crate) fn home_lookers(alloc: Global, procs: &[List<Instr>]) -> Result<Vec<bool>, Memory> {
-    let Ok(flags) = vec![in alloc; false; procs.len()] else {
-        return Err(Memory);
-    };
+    let flags = vec![in alloc; false; procs.len()]?;
     let mut found = FoundProcedures {
         flags,
         todo: Vec::new(alloc),

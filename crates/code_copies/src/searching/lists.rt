@@ -17,9 +17,7 @@ pub fn number_of(index: usize) -> u32 {
 pub(crate) fn empty_lists(alloc: Global, count: usize) -> Result<Vec<Vec<u32>>, Memory> {
     let mut lists = Vec::new(alloc);
     for _ in 0..count {
-        let Ok(()) = lists.push(Vec::new(alloc)) else {
-            return Err(Memory);
-        };
+        lists.push(Vec::new(alloc))?;
     }
     Ok(lists)
 }
@@ -40,8 +38,6 @@ pub(crate) fn append_to(lists: &mut [Vec<u32>], list: u32, item: u32) -> Result<
     if items.last().copied() == Some(item) {
         return Ok(());
     }
-    match items.push(item) {
-        Ok(()) => Ok(()),
-        Err(_) => Err(Memory),
-    }
+    items.push(item)?;
+    Ok(())
 }

@@ -20,9 +20,7 @@ pub struct FoundCopy<C> {
 ///
 /// Source: this project's choice.
 pub fn ranks_of<C>(alloc: Global, copies: &[FoundCopy<C>]) -> Result<Vec<u32>, Memory> {
-    let Ok(mut ranks) = vec![in alloc; 0; copies.len()] else {
-        return Err(Memory);
-    };
+    let mut ranks = vec![in alloc; 0; copies.len()]?;
     for (rank, found) in copies.iter().enumerate() {
         if let Some(slot) = ranks.get_mut(found.number as usize) {
             *slot = number_of(rank);
@@ -60,19 +58,15 @@ fn renamed(
     for each in found {
         let mut copy = each.copy;
         rename(&mut copy.places, ranks);
-        let Ok(()) = copies.push(copy) else {
-            return Err(Memory);
-        };
+        copies.push(copy)?;
     }
     Ok(copies)
 }
 
 /// Puts the copies in the order of their procedures, those of one procedure as they are.
 fn sort(copies: &mut Vec<FoundCopy<ProcedureCopy>>) -> Result<(), Memory> {
-    match copies.sort_by_key(|found| found.copy.key.proc) {
-        Ok(()) => Ok(()),
-        Err(_) => Err(Memory),
-    }
+    copies.sort_by_key(|found| found.copy.key.proc)?;
+    Ok(())
 }
 
 /// Copies in the order of their procedures, with those of the start and of a reaction.

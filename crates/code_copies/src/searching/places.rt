@@ -47,17 +47,15 @@ impl Pass<'_> {
                 self.hand_on(
                     next,
                     Facts {
-                        home: facts.home,
                         event: found,
-                        is_rooted: facts.is_rooted,
+                        ..facts
                     },
                 );
                 self.hand_on(
                     over,
                     Facts {
-                        home: facts.home,
                         event: other,
-                        is_rooted: facts.is_rooted,
+                        ..facts
                     },
                 );
             }
@@ -92,8 +90,7 @@ impl Pass<'_> {
                 next,
                 Facts {
                     home: Some(*state),
-                    event: facts.event,
-                    is_rooted: facts.is_rooted,
+                    ..facts
                 },
             ),
             Instr::Mark(state) => self.hand_on(next, after_mark(self.keeps_root, *state, facts)),
@@ -115,10 +112,7 @@ impl Pass<'_> {
 
 /// So many places to which nothing was handed on.
 fn unreached_places(alloc: Global, count: usize) -> Result<Vec<Option<Place>>, Memory> {
-    match vec![in alloc; None; count] {
-        Ok(places) => Ok(places),
-        Err(_) => Err(Memory),
-    }
+    Ok(vec![in alloc; None; count]?)
 }
 
 /// The places of a copy of these instructions that takes the facts for known, in code whose root

@@ -29,9 +29,7 @@ fn asked_events(alloc: Global, instrs: &[Instr]) -> Result<Vec<u32>, Memory> {
         if events.contains(event) {
             break;
         }
-        let Ok(()) = events.push(*event) else {
-            return Err(Memory);
-        };
+        events.push(*event)?;
         place = place.saturating_add(1).saturating_add(*over as usize);
     }
     Ok(events)
@@ -39,13 +37,9 @@ fn asked_events(alloc: Global, instrs: &[Instr]) -> Result<Vec<u32>, Memory> {
 
 /// The set with one more event.
 fn grown_set(alloc: Global, set: &[u32], event: u32) -> Result<Vec<u32>, Memory> {
-    let Ok(mut grown) = Vec::from_slice(alloc, set) else {
-        return Err(Memory);
-    };
-    match grown.push(event) {
-        Ok(()) => Ok(grown),
-        Err(_) => Err(Memory),
-    }
+    let mut grown = Vec::from_slice(alloc, set)?;
+    grown.push(event)?;
+    Ok(grown)
 }
 
 /// Adds the sets that grow from the empty one by one of the events each.
@@ -54,9 +48,7 @@ fn grow(alloc: Global, sets: &mut Vec<Vec<u32>>, events: &[u32]) -> Result<(), M
     for event in events {
         let grown = grown_set(alloc, list_at(sets, last), *event)?;
         last = number_of(sets.len());
-        let Ok(()) = sets.push(grown) else {
-            return Err(Memory);
-        };
+        sets.push(grown)?;
     }
     Ok(())
 }

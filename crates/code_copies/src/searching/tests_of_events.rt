@@ -98,14 +98,10 @@ impl Tests {
         if events.last().copied() == Some(event) {
             return Ok(());
         }
-        let Ok(()) = events.push(event) else {
-            return Err(Memory);
-        };
+        events.push(event)?;
         self.room = self.room.saturating_sub(1);
-        match self.todo.push(proc) {
-            Ok(()) => Ok(()),
-            Err(_) => Err(Memory),
-        }
+        self.todo.push(proc)?;
+        Ok(())
     }
 
     /// Finds procedures to test the event.

@@ -29,12 +29,8 @@ impl Spread {
     pub(crate) fn new(alloc: Global, raw: &RawCode) -> Result<Spread, Memory> {
         let mut places = Vec::new(alloc);
         for instrs in raw.procs.items() {
-            let Ok(own) = vec![in alloc; UNREACHED; instrs.items().len()] else {
-                return Err(Memory);
-            };
-            let Ok(()) = places.push(own) else {
-                return Err(Memory);
-            };
+            let own = vec![in alloc; UNREACHED; instrs.items().len()]?;
+            places.push(own)?;
         }
         Ok(Spread {
             table: Table::new(alloc)?,

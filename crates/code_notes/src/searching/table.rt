@@ -48,13 +48,9 @@ impl Table {
 
     /// Adds a list.
     fn add(&mut self, alloc: Global, list: Vec<u32>) -> Result<(), Memory> {
-        let Ok(()) = self.longer.push(Vec::new(alloc)) else {
-            return Err(Memory);
-        };
-        match self.lists.push(list) {
-            Ok(()) => Ok(()),
-            Err(_) => Err(Memory),
-        }
+        self.longer.push(Vec::new(alloc))?;
+        self.lists.push(list)?;
+        Ok(())
     }
 
     /// The list with one more note, if it is there.
@@ -73,18 +69,12 @@ impl Table {
         let number = number_of(self.lists.len());
         let mut notes = Vec::new(alloc);
         for other in self.notes(list) {
-            let Ok(()) = notes.push(*other) else {
-                return Err(Memory);
-            };
+            notes.push(*other)?;
         }
-        let Ok(()) = notes.push(note) else {
-            return Err(Memory);
-        };
+        notes.push(note)?;
         self.add(alloc, notes)?;
         if let Some(longer) = self.longer.get_mut(list as usize) {
-            let Ok(()) = longer.push(number) else {
-                return Err(Memory);
-            };
+            longer.push(number)?;
         }
         Ok(number)
     }

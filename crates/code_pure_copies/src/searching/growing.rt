@@ -55,10 +55,8 @@ impl Growing {
 
     /// The number of the copy, which is wanted from now on.
     pub(crate) fn number(&mut self, wanted: Wanted) -> Result<u32, Memory> {
-        match self.wanted.insert_full(wanted) {
-            Ok((index, _)) => Ok(number_of(index)),
-            Err(_) => Err(Memory),
-        }
+        let (index, _) = self.wanted.insert_full(wanted)?;
+        Ok(number_of(index))
     }
 
     /// The next copy that is to be made, for which it takes the room. None where each one is made,
@@ -85,10 +83,8 @@ impl Growing {
                 names,
             },
         };
-        match self.made.push(found) {
-            Ok(()) => Ok(()),
-            Err(_) => Err(Memory),
-        }
+        self.made.push(found)?;
+        Ok(())
     }
 
     /// Whether each copy that is wanted is made.

@@ -74,9 +74,7 @@ impl DepthSearch {
         let mut names = Vec::new(alloc);
         for instr in instrs {
             let named = self.named(depth, instr)?;
-            let Ok(()) = names.push(named) else {
-                return Err(Memory);
-            };
+            names.push(named)?;
         }
         Ok(names)
     }

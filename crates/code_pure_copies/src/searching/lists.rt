@@ -56,9 +56,7 @@ impl NoteLists {
         if self.length(list) >= PENDING_LIMIT {
             return Ok(None);
         }
-        match self.longer.insert_full(Longer { list, note }) {
-            Ok((index, _)) => Ok(Some(number_of(index.saturating_add(1)))),
-            Err(_) => Err(Memory),
-        }
+        let (index, _) = self.longer.insert_full(Longer { list, note })?;
+        Ok(Some(number_of(index.saturating_add(1))))
     }
 }

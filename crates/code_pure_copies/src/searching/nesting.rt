@@ -125,10 +125,7 @@ fn count(flags: &[bool]) -> usize {
 
 /// As many flags as there are procedures.
 fn flags_of(alloc: Global, code: &RawCode, flag: bool) -> Result<Vec<bool>, Memory> {
-    match vec![in alloc; flag; code.procs.items().len()] {
-        Ok(flags) => Ok(flags),
-        Err(_) => Err(Memory),
-    }
+    Ok(vec![in alloc; flag; code.procs.items().len()]?)
 }
 
 impl Nesting {

@@ -19,9 +19,7 @@ fn rename(names: &mut [Named], ranks: &[u32]) {
 fn origins_of(alloc: Global, copies: &[FoundCopy<NamingCopy>]) -> Result<Vec<u32>, Memory> {
     let mut origins = Vec::new(alloc);
     for found in copies {
-        let Ok(()) = origins.push(found.copy.origin) else {
-            return Err(Memory);
-        };
+        origins.push(found.copy.origin)?;
     }
     Ok(origins)
 }
@@ -37,9 +35,7 @@ fn renamed(
         let copy = found.copy;
         let mut names = copy.names;
         rename(&mut names, ranks);
-        let Ok(()) = all.push(names) else {
-            return Err(Memory);
-        };
+        all.push(names)?;
     }
     Ok(all)
 }
@@ -52,9 +48,7 @@ pub(crate) fn ordered(
     start: u32,
     react: u32,
 ) -> Result<PureCopyPlan, Memory> {
-    let Ok(()) = copies.sort_by_key(|found| found.copy.origin) else {
-        return Err(Memory);
-    };
+    copies.sort_by_key(|found| found.copy.origin)?;
     let ranks = ranks_of(alloc, &copies)?;
     let origins = origins_of(alloc, &copies)?;
     let names = renamed(alloc, copies, &ranks)?;

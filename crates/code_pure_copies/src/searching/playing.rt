@@ -19,9 +19,7 @@ pub(crate) struct Playing {
 impl Playing {
     /// Those of these procedures. None where they weren't found in so many rounds.
     pub(crate) fn of(alloc: Global, procs: &[List<Instr>]) -> Result<Option<Playing>, Memory> {
-        let Ok(flags) = vec![in alloc; false; procs.len()] else {
-            return Err(Memory);
-        };
+        let flags = vec![in alloc; false; procs.len()]?;
         let mut playing = Playing { flags };
         for _round in 0..ROUND_LIMIT {
             if !playing.find_more(procs) {

@@ -9,7 +9,7 @@ pub loop-state-preserved : goal.loop-state-preserved
 loop-state-preserved c =
     let test = c.loop-state-test.true in let count = c.len-state-end.ensures.count in
     ranks_more c.args.tree.now c.loop-state.state c.loop-state.ors _ c.loop-state.ranks.items c.push.new.self.items
-    c.len-state-end.ensures.tree (omega (arith, test, count)) c.loop-state.invariant c.in-Ok.ensures.items
+    c.len-state-end.ensures.tree (omega (arith, test, count)) c.loop-state.invariant c.in_ok-push.ensures.items
     (ap (λ k. c.loop-state.ors + k) c.or_at-ors.ensures)
 
 pub returns : goal.returns

@@ -9,7 +9,7 @@ loop-number-init c = outside_none _ _ c.new-flags.ensures.items
 pub loop-number-preserved : goal.loop-number-preserved
 loop-number-preserved c =
     outside_more _ _ _ _ c.loop-number.invariant
-    (c.in-Ok.ensures.items
+    (c.in_ok-push.ensures.items
     ∙ ap (λ b. c.loop-number.flags.items ++ b ∷ []) (c.is_outside.ensures ∙ ap is_outside c.function_kind.ensures))
 
 pub returns : goal.returns

@@ -4,11 +4,11 @@ use Rattle.chart_places.specs.Survey.{placed_of, parent_numbers}
 use Rattle.chart_places.proofs.ShapeLemmas.{placed_tree-made}
 use Rattle.chart_places.proofs.tree.shape_of.Goals as goal
 
-pub returns-in-Ok-make : goal.returns-in-Ok-make
-returns-in-Ok-make c =
-    let parents = c.in-Ok.ensures in
-    let comps = c.in-Ok-comps.ensures in
-    c.in-Ok-make.ensures.shape
-    ∙ ap (λ ps. tree_of ps c.in-Ok-comps.comps.items) parents
+pub returns-in-Ok : goal.returns-in-Ok
+returns-in-Ok c =
+    let parents = c.in_ok-parents.ensures in
+    let comps = c.in_ok-comps.ensures in
+    c.in-Ok.ensures.shape
+    ∙ ap (λ ps. tree_of ps c.in_ok-comps.comps.items) parents
     ∙ ap (λ cs. tree_of (parent_numbers (map placed_of c.args.states.now)) cs) comps
     ∙ placed_tree-made (map placed_of c.args.states.now) c.requires.tree

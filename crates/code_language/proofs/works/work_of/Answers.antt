@@ -18,7 +18,7 @@ loop-place-preserved c =
     let within : place < length xs = omega (arith, c.loop-place.invariant.size) in
     let here = rw c.deref.ensures.value at c.work_from-left.ensures.work in
     let le = rw c.deref.ensures.value at c.work_from-left.ensures.bounded in
-    rw c.in-Ok.ensures.items
+    rw c.in_ok-push.ensures.items
     (left_more w xs place c.index-instrs-place.result c.work_from-left.result c.loop-place.lefts.items so_far within
     c.index-instrs-place.is here le)
 

@@ -5,4 +5,4 @@ use Rattle.code_merging.proofs.finding.own_numbers.Goals as goal
 -- one more
 pub loop-p-preserved : goal.loop-p-preserved
 loop-p-preserved c =
-    c.in-Ok.ensures.items ∙ ap (λ l. l ++ c.loop-p.p ∷ []) c.loop-p.invariant ∙ sym (numbers_push c.loop-p.p)
+    c.in_ok-push.ensures.items ∙ ap (λ l. l ++ c.loop-p.p ∷ []) c.loop-p.invariant ∙ sym (numbers_push c.loop-p.p)

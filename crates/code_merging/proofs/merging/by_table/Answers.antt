@@ -7,18 +7,17 @@ use Rattle.code_merging.proofs.MergedWhole.{merged_same_runs}
 use Rattle.code_shrink.specs.Numbers.{number_by}
 use Rattle.code_merging.proofs.merging.by_table.Goals as goal
 
--- it is accepted as it was made
-pub returns-in-Ok : goal.returns-in-Ok
-returns-in-Ok c =
-    ap code_of c.in-Ok.ensures.accepted ∙ c.in_ok-made.ensures
+-- it is kept as it was made
+pub returns : goal.returns
+returns c =
+    ap code_of c.in_ok-made.ensures ∙ c.in_ok-raw.ensures
     ∙ ap (λ (raw : RawCode). merged_code (number_by c.args.numbers.now) (code_of raw)) c.into_raw.ensures.raw
 
--- since it is well formed
-pub unreachable-requires : goal.unreachable-requires
-unreachable-requires c =
-    let made = c.in_ok-made.ensures
+-- and it is well formed
+pub of_well_formed-requires : goal.of_well_formed-requires
+of_well_formed-requires c =
+    let made = c.in_ok-raw.ensures
     ∙ ap (λ (raw : RawCode). merged_code (number_by c.args.numbers.now) (code_of raw)) c.into_raw.ensures.raw in
     let same = merged_same_runs (number_by c.args.numbers.now) (code_of c.args.code) c.into_raw.ensures.well_formed
     c.requires.equal in
-    let bad = sym c.in-Err-Fault.field-0-is
-    ∙ c.in-Err-Fault.ensures.only (subst IsCode (sym made) same.well_formed) in cc
+    subst IsCode (sym made) same.well_formed

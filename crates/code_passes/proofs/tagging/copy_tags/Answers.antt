@@ -29,7 +29,7 @@ loop-copy-preserved c =
       copy_there c.args.plan.now (code_of c.args.code.now) c.requires.right c.deref-copy-items.result.now
           c.deref-copy-items.ensures.value c.loop-copy.copy-index x c.loop-copy-test.true c.copy-item.is,
     ) in
-    ap (map Some) c.in-Ok.ensures.items
+    ap (map Some) c.in_ok-push.ensures.items
     ∙ copies_more c.args.plan.now.sets.items c.deref.result.now tags c.args.plan.now.copies.items
     c.deref-copy-items.result.now c.loop-copy.copy-index x _ c.copy_tag.result c.loop-copy.made.items
     c.deref.ensures.value c.deref-copy-items.ensures.value c.loop-copy-test.true c.copy-item.is c.copy_tag.ensures

@@ -13,7 +13,7 @@ use Rattle.code_passes.proofs.tagging.own_tags.Goals as goal
 -- one more
 pub loop-proc-preserved : goal.loop-proc-preserved
 loop-proc-preserved c =
-    c.in-Ok.ensures.items ∙ ap (λ tag. c.loop-proc.tags.items ++ tag ∷ []) c.own_tag.ensures
+    c.in_ok-push.ensures.items ∙ ap (λ tag. c.loop-proc.tags.items ++ tag ∷ []) c.own_tag.ensures
     ∙ own_pushed c.loop-proc.proc c.loop-proc.tags.items c.loop-proc.invariant
 
 -- all

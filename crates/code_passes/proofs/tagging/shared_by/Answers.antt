@@ -10,7 +10,7 @@ loop-proc-preserved c numbers told =
     let i = c.loop-proc.proc in
     let same = c.requires in
     let test = c.loop-proc-test.true in
-    c.in-Ok.ensures.items ∙ ap (λ tag. c.loop-proc.shared.items ++ tag ∷ []) c.with_shared.ensures
+    c.in_ok-push.ensures.items ∙ ap (λ tag. c.loop-proc.shared.items ++ tag ∷ []) c.with_shared.ensures
     ∙ shared_more numbers c.args.tags.now i _ _ c.loop-proc.shared.items c.loop-proc-test.true
     (told i (omega (arith, same, test))) (c.loop-proc.invariant numbers told)
 

@@ -8,7 +8,7 @@ loop-origin-preserved c =
     let tags = c.args.tags.now in
     let origins = c.args.origins.now in
     let i = c.loop-origin.origin-index in
-    ap (map Some) c.in-Ok.ensures.items
+    ap (map Some) c.in_ok-push.ensures.items
     ∙ tag_pushed (slice_get tags) origins i 0 c.loop-origin.found.items _ c.loop-origin-test.true
     (there tags (get_or origins i 0) _ (c.requires i c.loop-origin-test.true)) c.loop-origin.invariant
 

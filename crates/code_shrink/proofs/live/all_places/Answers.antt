@@ -16,7 +16,7 @@ loop-own-preserved c procs same =
     let own = c.deref.ensures.value ∙ items_at xs n c.own-item.result below c.own-item.is in
     let reached = c.in_ok-flags.ensures (straight (slice_index_or procs n [])) (ways_at procs xs n same lt ∙ sym own) in
     subst (λ fs. EachReached (take (n + 1) procs) fs)
-    (sym (ap items_in c.in-Ok.ensures.items ∙ items_more c.loop-own.all.items c.in_ok-flags.flags))
+    (sym (ap items_in c.in_ok-push.ensures.items ∙ items_more c.loop-own.all.items c.in_ok-flags.flags))
     (reached_more procs (items_in c.loop-own.all.items) n c.in_ok-flags.flags.items (c.loop-own.invariant procs same) lt
     reached)
 

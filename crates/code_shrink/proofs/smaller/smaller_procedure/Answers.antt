@@ -11,7 +11,7 @@ use Rattle.code_shrink.proofs.MadeLemmas.{MadeFrom, at_place, kept_from, ways_le
 use Rattle.code_shrink.proofs.MadeLemmas.{left_made}
 use Rattle.code_shrink.proofs.MadeLemmas.{made_more, made_all, map-reverse}
 use Rattle.code_shrink.proofs.smaller.smaller_procedure.Goals as goal
-use Rattle.code_shrink.proofs.smaller.smaller_procedure.Goals.{then-kept+in_ok-instr+in-Ok, else-kept}
+use Rattle.code_shrink.proofs.smaller.smaller_procedure.Goals.{then-kept+in_ok-instr+in_ok-push, else-kept}
 
 -- as many ways as instructions
 pub bounds-ways-place : goal.bounds-ways-place
@@ -38,8 +38,8 @@ loop-place-preserved c =
     let same = c.deref.ensures.value in let also = c.deref-in-loop-place.ensures.value in
     let counted = rw also at (c.count_from-count.ensures (kept_from bs is (i + 1))
     (ap reverse also ∙ so_far.counted)) in
-    rw c.in-Ok-push.ensures.items (elim c.if-kept.branch [
-      | then-kept+in_ok-instr+in-Ok w ↦
+    rw c.in_ok-push-2.ensures.items (elim c.if-kept.branch [
+      | then-kept+in_ok-instr+in_ok-push w ↦
           let z = w.index-instrs-place.result in let y = instr_of z in
           let e = drop_map_at instr_of xs i z there w.index-instrs-place.is in
           let last = w.deref-then-kept.ensures.value in
@@ -51,7 +51,7 @@ loop-place-preserved c =
           w.if-kept.true
           (w.in_ok-instr.ensures (slides (map folded (drop (i + 1) is))) (kept_from bs is (i + 1))
           (way_at is i y _ ways c.requires.ways e (drop_more ways i _ passed)) (ap reverse last ∙ so_far.counted))
-          (ap (λ (v : Vec Instr Global). v.items) w.smaller-is ∙ w.in-Ok.ensures.items))
+          (ap (λ (v : Vec Instr Global). v.items) w.smaller-is ∙ w.in_ok-push.ensures.items))
       | else-kept w ↦
           let some = some_at is i within in let y = some.0 in let e = some.1 in
           made_more m bs is i y (get_or bs i false) e f kept n counts (instrs_of old) (instrs_of now) so_far within

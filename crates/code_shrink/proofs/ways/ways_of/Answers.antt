@@ -35,7 +35,7 @@ loop-place-preserved c =
     let so_far = subst (λ k. WaysFrom xs k c.loop-place.ways.items) (sym back) c.loop-place.invariant in
     let within : place < length xs = omega (arith, c.loop-place.invariant.size) in
     let on = c.led-way.ensures ∙ ap (λ ws. led c.decided_way-decided.result (reverse ws)) c.deref.ensures.value in
-    rw c.in-Ok.ensures.items
+    rw c.in_ok-push.ensures.items
     (ways_more xs place c.index-instrs-place.result within c.index-instrs-place.is c.decided_way-decided.result
     c.led-way.result c.loop-place.ways.items so_far c.decided_way-decided.ensures on)
 

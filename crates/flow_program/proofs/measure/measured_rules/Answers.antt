@@ -11,11 +11,11 @@ pub measures_of-requires-clause-begun : goal.measures_of-requires-clause-begun
 measures_of-requires-clause-begun c =
     let chart = chart_of c.args.chart in
     let kept = c.run_rules-end.new.out.bytes.items in
-    let call = call_of files.ghosts bytes.ghosts c.in-Ok.inputs c.run_rules-end.new.inputs c.new-out.result
+    let call = call_of files.ghosts bytes.ghosts c.in_ok-inputs.inputs c.run_rules-end.new.inputs c.new-out.result
     c.run_rules-end.new.out in
     let run = kept_of chart c.args.bounds false call [] c.args.events.now kept c.run_rules-end.result
     c.names.ensures.valid.names
-    c.in-Ok.ensures (ap (λ (z : List ℕ). Some z) c.new-out.ensures) refl c.run_rules-end.ensures in
+    c.in_ok-inputs.ensures (ap (λ (z : List ℕ). Some z) c.new-out.ensures) refl c.run_rules-end.ensures in
     some_newline chart c.args.bounds c.args.events.now kept c.run_rules-end.result run
 
 -- the bytes that were kept are counted
@@ -23,10 +23,10 @@ pub returns : goal.returns
 returns c =
     let chart = chart_of c.args.chart in
     let kept = c.run_rules-end.new.out.bytes.items in
-    let call = call_of files.ghosts bytes.ghosts c.in-Ok.inputs c.run_rules-end.new.inputs c.new-out.result
+    let call = call_of files.ghosts bytes.ghosts c.in_ok-inputs.inputs c.run_rules-end.new.inputs c.new-out.result
     c.run_rules-end.new.out in
     let run = kept_of chart c.args.bounds false call [] c.args.events.now kept c.run_rules-end.result
     c.names.ensures.valid.names
-    c.in-Ok.ensures (ap (λ (z : List ℕ). Some z) c.new-out.ensures) refl c.run_rules-end.ensures in
+    c.in_ok-inputs.ensures (ap (λ (z : List ℕ). Some z) c.new-out.ensures) refl c.run_rules-end.ensures in
     measured chart c.args.bounds c.args.events.now kept c.run_rules-end.result c.measures_of.result run
     c.measures_of.ensures.whole c.measures_of.ensures.counts

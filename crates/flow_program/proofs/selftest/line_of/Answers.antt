@@ -3,8 +3,8 @@ use Rattle.flow_program.specs.CaseLine.{line_text}
 use Rattle.flow_program.proofs.SelftestLemmas.{line_in_pieces}
 use Rattle.flow_program.proofs.selftest.line_of.Goals as goal
 
-pub returns-in-Ok : goal.returns-in-Ok
-returns-in-Ok c =
+pub returns : goal.returns
+returns c =
     let m = c.args.measures.now in
-    c.in-Ok.ensures.ok ∙ line_in_pieces c.args.n c.args.states m.events m.trace_bytes c.result_of-result.result.now
+    c.in_ok-line.ensures.ok ∙ line_in_pieces c.args.n c.args.states m.events m.trace_bytes c.result_of-result.result.now
     ∙ ap (λ (x : List ℕ). line_text c.args.n c.args.states m.events m.trace_bytes x) c.result_of-result.ensures

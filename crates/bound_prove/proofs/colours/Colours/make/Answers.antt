@@ -12,7 +12,7 @@ loop-init c = record { sized = simp c.new-rows.ensures.items; each = rw c.new-ro
 pub loop-preserved : goal.loop-preserved
 loop-preserved c =
     let h = c.loop.invariant in
-    rw c.in-Ok.ensures.items (record {
+    rw c.in_ok-push.ensures.items (record {
       sized = let n = length_push c.loop.rows.items c.in_ok-row.row in let m = h.sized in omega (arith, n, m);
       each = white_pushed _ _ _ _ h.each c.in_ok-row.ensures;
     })

@@ -5,7 +5,7 @@ pub loop-init : goal.loop-init
 loop-init c = rw c.new-rows.ensures.items (λ n r e. absurd cc)
 
 pub loop-preserved : goal.loop-preserved
-loop-preserved c = rw c.in-Ok.ensures.items (empty_pushed _ _ c.loop.invariant c.in_ok-row.ensures)
+loop-preserved c = rw c.in_ok-push.ensures.items (empty_pushed _ _ c.loop.invariant c.in_ok-row.ensures)
 
 pub returns : goal.returns
 returns c = empty_none (record { rows = c.loop.rows }) c.loop.invariant

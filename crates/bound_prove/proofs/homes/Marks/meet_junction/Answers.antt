@@ -28,7 +28,7 @@ returns c =
     record {
       goes_on =
           marks_junction (chart_in look) look.cell.event c.args.s c.args.kind old new c.args.j c.requires.within
-          (λ h. c.if-index-self.false (read ∙ h)) refl refl c.requires.right c.in-Ok.ensures.items refl;
+          (λ h. c.if-index-self.false (read ∙ h)) refl refl c.requires.right c.in_ok-push.ensures.items refl;
       marked =
           now_marked (chart_in look) look.cell.event c.args.s c.args.kind old new c.args.j c.requires.within
           (λ h. c.if-index-self.false (read ∙ h)) refl refl;

@@ -26,9 +26,9 @@ returns c =
             home = sym c.home-home.ensures.home;
             within = c.home-home.ensures.within;
           })
-          refl refl refl c.in-Ok.ensures.items;
+          refl refl refl c.in_ok-push.ensures.items;
       known =
           subst (λ h. Contains c.push.new.self.items h) home
-          (subst (λ z. Contains z c.home-home.result) (sym c.in-Ok.ensures.items)
+          (subst (λ z. Contains z c.home-home.result) (sym c.in_ok-push.ensures.items)
           (contains_last c.args.self.now.homes.items c.home-home.result));
     }

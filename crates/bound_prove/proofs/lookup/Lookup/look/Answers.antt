@@ -9,4 +9,4 @@ returns-then-is_done c =
 pub returns : goal.returns
 returns c =
     looked_met c.args.self.now _ _ c.args.event c.args.part c.args.index _ c.look-need.ensures c.requires
-    (λ h. let t = c.is_done.ensures.1 h in absurd cc) c.in-Ok.ensures.items
+    (λ h. let t = c.is_done.ensures.1 h in absurd cc) c.in_ok-push.ensures.items

@@ -2,7 +2,7 @@ use Rattle.std.proofs.Common.{refl}
 use Rattle.code_shrink.proofs.SearchLemmas.{finds_new}
 use Rattle.code_shrink.proofs.search.Search.find.Goals as goal
 
-pub returns-in-Ok : goal.returns-in-Ok
-returns-in-Ok c =
+pub returns : goal.returns
+returns c =
     finds_new c.args.proc c.args.self.now _ c.requires (cc (c.index.ensures, c.if-index.false)) refl
-    c.in-Ok.ensures.items
+    c.in_ok-push.ensures.items

@@ -10,7 +10,7 @@ use crate::tables::states;
 use actions::copy_names;
 use checked_chart::Chart;
 use code_language::{Code, CodeEnd, RawCode, accept};
-use continuation_compile::number;
+use list_compile::number;
 use flow_base::Memory;
 use state_compile::procedures;
 use std::alloc::Global;

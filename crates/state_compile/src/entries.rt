@@ -10,17 +10,17 @@ ghost use Rattle.chart_code.specs.StateProcedures as templates;
 ghost use Rattle.chart_code.specs.Places.{numbers};
 ghost use Rattle.chart_code.specs.Keys as keys;
 ghost use Rattle.chart_code.specs.Bodies.{body};
-ghost use Rattle.continuation_compile.specs.Drafts.{Instrs, code_seen, procs_of};
-ghost use Rattle.continuation_compile.specs.Numberings.{chart_in, IsNumbering};
+ghost use Rattle.list_compile.specs.Drafts.{Instrs, code_seen, procs_of};
+ghost use Rattle.list_compile.specs.Numberings.{chart_in, IsNumbering};
 
 use crate::children::children;
 use crate::firings::put_toward;
 use active_config::Comp;
 use checked_chart::ListKind;
 use code_language::{Cond, Instr};
-use continuation_compile::number_offsets::{ACTION_COUNT, ENTRY_START};
-use continuation_compile::results::DONE;
-use continuation_compile::{
+use list_compile::number_offsets::{ACTION_COUNT, ENTRY_START};
+use list_compile::results::DONE;
+use list_compile::{
     Draft, Numbering, append, put, put_call, put_refuse, put_require, put_return,
 };
 use flow_base::{List, Memory};

@@ -7,15 +7,15 @@ ghost use Rattle.chart_code.specs.StateProcedures as templates;
 ghost use Rattle.chart_code.specs.Bodies.{body};
 ghost use Rattle.chart_code.specs.Keys as keys;
 ghost use Rattle.chart_code.specs.Places.{numbers};
-ghost use Rattle.continuation_compile.specs.Drafts.{code_seen, procs_of};
-ghost use Rattle.continuation_compile.specs.Numberings.{chart_in, IsNumbering};
+ghost use Rattle.list_compile.specs.Drafts.{code_seen, procs_of};
+ghost use Rattle.list_compile.specs.Numberings.{chart_in, IsNumbering};
 
 use crate::children::children;
 use active_config::Comp;
 use code_language::{Cond, Instr};
-use continuation_compile::number_offsets::{ACTION_COUNT, EXIT_ACTION_START, EXIT_OFFSET};
-use continuation_compile::results::DONE;
-use continuation_compile::{Draft, Numbering, append, put, put_call, put_require, put_return};
+use list_compile::number_offsets::{ACTION_COUNT, EXIT_ACTION_START, EXIT_OFFSET};
+use list_compile::results::DONE;
+use list_compile::{Draft, Numbering, append, put, put_call, put_require, put_return};
 use flow_base::{List, Memory};
 use std::alloc::Global;
 

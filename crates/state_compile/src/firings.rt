@@ -4,12 +4,12 @@ ghost use Rattle.active_config.specs.Tree.{state_count};
 ghost use Rattle.checked_chart.specs.Homes as homes;
 ghost use Rattle.chart_code.specs.StateProcedures as templates;
 ghost use Rattle.chart_code.specs.Places.{numbers};
-ghost use Rattle.continuation_compile.specs.Drafts.{code_seen, procs_of};
-ghost use Rattle.continuation_compile.specs.Numberings.{chart_in, IsNumbering};
+ghost use Rattle.list_compile.specs.Drafts.{code_seen, procs_of};
+ghost use Rattle.list_compile.specs.Numberings.{chart_in, IsNumbering};
 
 use code_language::{Cond, Instr};
-use continuation_compile::results::DONE;
-use continuation_compile::{Draft, Numbering, append, put, put_call, put_require, put_return};
+use list_compile::results::DONE;
+use list_compile::{Draft, Numbering, append, put, put_call, put_require, put_return};
 use flow_base::{List, Memory};
 use std::alloc::Global;
 

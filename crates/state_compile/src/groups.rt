@@ -6,15 +6,15 @@ ghost use Rattle.chart_code.specs.Ends.{below_count};
 ghost use Rattle.chart_code.specs.Orders.{span};
 ghost use Rattle.chart_code.specs.Keys as keys;
 ghost use Rattle.chart_code.specs.Bodies.{body};
-ghost use Rattle.continuation_compile.specs.Drafts.{procs_of};
-ghost use Rattle.continuation_compile.specs.Numberings.{chart_in, IsNumbering};
+ghost use Rattle.list_compile.specs.Drafts.{procs_of};
+ghost use Rattle.list_compile.specs.Numberings.{chart_in, IsNumbering};
 
 use crate::entries::append_defaults;
 use crate::exits::{append_exit, append_leave};
 use crate::firings::append_arrive;
 use crate::pairs::{PairKey, append_pairs};
 use checked_chart::ListKind;
-use continuation_compile::{Draft, Numbering, append_list};
+use list_compile::{Draft, Numbering, append_list};
 use flow_base::Memory;
 use std::alloc::Global;
 

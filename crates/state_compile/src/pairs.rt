@@ -5,13 +5,13 @@ ghost use Rattle.active_config.specs.Tree.{state_count};
 ghost use Rattle.chart_code.specs.Bodies.{body};
 ghost use Rattle.chart_code.specs.Ends.{end_of};
 ghost use Rattle.chart_code.specs.Orders.{span};
-ghost use Rattle.continuation_compile.specs.Drafts.{procs_of};
-ghost use Rattle.continuation_compile.specs.Numberings.{chart_in, IsNumbering};
+ghost use Rattle.list_compile.specs.Drafts.{procs_of};
+ghost use Rattle.list_compile.specs.Numberings.{chart_in, IsNumbering};
 ghost use Rattle.state_compile.specs.Keyed.{pair_key};
 
 use crate::entries::append_enter;
 use crate::firings::{append_arrive, append_take};
-use continuation_compile::{Draft, Numbering};
+use list_compile::{Draft, Numbering};
 use flow_base::Memory;
 use std::alloc::Global;
 

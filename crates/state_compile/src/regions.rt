@@ -4,14 +4,14 @@ ghost use Rattle.active_config.specs.Tree.{state_count};
 ghost use Rattle.chart_code.specs.Bodies.{body};
 ghost use Rattle.chart_code.specs.Keys as keys;
 ghost use Rattle.chart_code.specs.Orders.{ascending, descending};
-ghost use Rattle.continuation_compile.specs.Drafts.{procs_of};
-ghost use Rattle.continuation_compile.specs.Numberings.{chart_in, IsNumbering};
+ghost use Rattle.list_compile.specs.Drafts.{procs_of};
+ghost use Rattle.list_compile.specs.Numberings.{chart_in, IsNumbering};
 ghost use Rattle.state_compile.specs.Keyed.{keys_of};
 
 use crate::groups::append_group;
 use crate::processes::append_process;
 use checked_chart::{BlockKind, ListKind};
-use continuation_compile::{Draft, Lasting, Numbering, append_block, append_list, append_parts};
+use list_compile::{Draft, Lasting, Numbering, append_block, append_list, append_parts};
 use flow_base::Memory;
 use std::alloc::Global;
 

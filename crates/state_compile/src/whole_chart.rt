@@ -5,13 +5,13 @@ ghost use Rattle.code_language.specs.Code.{instrs_of};
 ghost use Rattle.chart_code.specs.StateProcedures as templates;
 ghost use Rattle.chart_code.specs.Keys as keys;
 ghost use Rattle.chart_code.specs.Bodies.{body};
-ghost use Rattle.continuation_compile.specs.Drafts.{procs_of};
-ghost use Rattle.continuation_compile.specs.Numberings.{chart_in, IsNumbering};
+ghost use Rattle.list_compile.specs.Drafts.{procs_of};
+ghost use Rattle.list_compile.specs.Numberings.{chart_in, IsNumbering};
 
 use crate::regions::{StateKeys, append_ascending, append_descending, append_junction_parts};
 use code_language::Instr;
-use continuation_compile::results::EMPTY_JUNCTION;
-use continuation_compile::{Draft, Numbering, append, put_return};
+use list_compile::results::EMPTY_JUNCTION;
+use list_compile::{Draft, Numbering, append, put_return};
 use flow_base::{List, Memory};
 use std::alloc::Global;
 

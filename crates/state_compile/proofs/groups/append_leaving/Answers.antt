@@ -4,8 +4,8 @@ use Rattle.chart_code.specs.Ends.{below_count}
 use Rattle.chart_code.specs.Keys.{Leave, Exit, Arrive}
 use Rattle.chart_code.specs.Orders.{span}
 use Rattle.chart_code.proofs.EndsLemmas.{end_after}
-use Rattle.continuation_compile.specs.Drafts.{procs_of}
-use Rattle.continuation_compile.specs.Numberings.{chart_in}
+use Rattle.list_compile.specs.Drafts.{procs_of}
+use Rattle.list_compile.specs.Numberings.{chart_in}
 use Rattle.state_compile.proofs.Spans.{both, span_same}
 use Rattle.state_compile.proofs.groups.append_leaving.Goals as goal
 

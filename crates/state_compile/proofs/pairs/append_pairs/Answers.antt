@@ -1,8 +1,8 @@
 use Rattle.std.proofs.Common.{refl, arith}
 use Rattle.chart_code.specs.Bodies.{body}
 use Rattle.chart_code.proofs.EndsLemmas.{end_is}
-use Rattle.continuation_compile.specs.Drafts.{procs_of}
-use Rattle.continuation_compile.specs.Numberings.{chart_in}
+use Rattle.list_compile.specs.Drafts.{procs_of}
+use Rattle.list_compile.specs.Numberings.{chart_in}
 use Rattle.state_compile.specs.Keyed.{pair_key}
 use Rattle.state_compile.proofs.Spans.{span_turn, span_over, span_same}
 use Rattle.state_compile.proofs.pairs.append_pairs.Goals as goal

@@ -1,6 +1,6 @@
 use Rattle.std.proofs.Common.{arith}
 use Rattle.chart_code.proofs.EndsLemmas.{end_is, end_after}
-use Rattle.continuation_compile.specs.Numberings.{chart_in}
+use Rattle.list_compile.specs.Numberings.{chart_in}
 use Rattle.state_compile.proofs.pairs.end.Goals as goal
 
 pub returns : goal.returns

@@ -24,7 +24,7 @@ mod types;
 pub use expressions::print_test;
 pub use fields::{print_field_label, print_field_type};
 pub use functions::{print_function, print_prototype};
-pub use kinds::{Kind, function_kind, print_function_label};
+pub use kinds::{Kind, function_kind};
 pub use labels::{Labels, is_or};
 pub use laws::{
     declarations_are_heads, fields_are_those_of_the_struct, names_are_distinct,

@@ -57,7 +57,7 @@ fn read_formed(alloc: Global, text: &[u8]) -> Result<Code, CodeTextFault>
 
 /// The code that a text spells, well formed or not. The text is read once, from its first line on,
 /// and a count in it takes no memory by itself.
-pub fn read_raw(alloc: Global, text: &[u8]) -> Result<RawCode, CodeTextFault>
+fn read_raw(alloc: Global, text: &[u8]) -> Result<RawCode, CodeTextFault>
     ensures { Answers written_of result (spec.spelled text.now) }
 {
     if text.len() > TEXT_LIMIT {

@@ -8,6 +8,7 @@ use crate::notes::noted_in;
 use crate::ranks::{Ranks, ranks_of};
 use actions::Names;
 use active_config::Shape;
+use c_functions::function_offsets::{INIT_OFFSET, REACT_OFFSET, START_OFFSET};
 use code_language::Code;
 use flow_base::{Bounds, List, Memory};
 use std::alloc::Global;
@@ -124,21 +125,21 @@ impl FileShape<'_> {
     pub fn init_function(&self) -> u32
         ensures { result ≡ plans.init_function (shape_seen self.now) }
     {
-        self.procs + 8
+        self.procs + INIT_OFFSET
     }
 
     /// The function of the start.
     pub fn start_function(&self) -> u32
         ensures { result ≡ plans.start_function (shape_seen self.now) }
     {
-        self.procs + 9
+        self.procs + START_OFFSET
     }
 
     /// The function of a reaction.
     pub fn react_function(&self) -> u32
         ensures { result ≡ plans.react_function (shape_seen self.now) }
     {
-        self.procs + 10
+        self.procs + REACT_OFFSET
     }
 
     /// The field of how many entries of `out[]` are in use.

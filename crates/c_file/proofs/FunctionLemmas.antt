@@ -9,6 +9,7 @@ use Rattle.c_subset.specs.Trees.{Function, File, End}
 use Rattle.c_subset.specs.Lines.{IsFunction}
 use Rattle.c_subset.specs.declared.trees.Function as declared
 use Rattle.c_subset.specs.declared.trees.CType.TheVariants.{Truth}
+use Rattle.c_functions.specs.declared.function_offsets.TheConstants.{OTHER_FUNCTIONS}
 use Rattle.c_functions.specs.Statements as plan
 use Rattle.c_functions.specs.Writer.{plans_of}
 use Rattle.c_functions.specs.Plans.{Shape, Tests}
@@ -37,7 +38,7 @@ first_count k T b room bodies =
 
 -- there are eleven after those of procedures
 file_count : (k : Code) (T : Tests) (b : Bounds) (room : ℕ) (bodies : ℕ → plan.Block)
-    → length (file_of k T b room bodies).functions ≡ length k.procedures.procs + 11
+    → length (file_of k T b room bodies).functions ≡ length k.procedures.procs + OTHER_FUNCTIONS
 file_count k T b room bodies =
     let all : length (file_of k T b room bodies).functions ≡ length (functions_c (shape_of k T b room) bodies) + 3 =
     length-append (functions_c (shape_of k T b room) bodies) _ in
@@ -49,12 +50,12 @@ loops_count fs p zero = refl
 loops_count [] p (suc n) = refl
 loops_count (f ∷ fs) p (suc n) = ap suc (loops_count fs (suc p) n)
 
-pub functions_count : (made : Made) → IsMade made → made.shape.procs + 11 ≡ length (functions_of made)
+pub functions_count : (made : Made) → IsMade made → made.shape.procs + OTHER_FUNCTIONS ≡ length (functions_of made)
 unfolding functions_of
 functions_count made is =
     let k : Code = code_of made.code.now in
     let file : File = file_of k (shape_seen made.shape).tests made.shape.bounds made.shape.outputs (plans_of k) in
-    ap (λ (K : Shape). K.procs + 11) is.shape
+    ap (λ (K : Shape). K.procs + OTHER_FUNCTIONS) is.shape
     ∙ sym (loops_count file.functions 0 (length k.procedures.procs)
     ∙ file_count k (shape_seen made.shape).tests made.shape.bounds made.shape.outputs (plans_of k))
 

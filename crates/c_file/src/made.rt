@@ -1,6 +1,7 @@
 //! What both files of a chart are made from.
 use crate::said::Said;
 use c_expression_writer::FileShape;
+use c_functions::function_offsets::OTHER_FUNCTIONS;
 use c_loops::with_loop;
 use c_subset::Function;
 use c_text::Labels;
@@ -8,9 +9,6 @@ use c_writer::function;
 use code_language::Code;
 use flow_base::Memory;
 use std::alloc::Global;
-
-/// How many functions there are besides those of procedures.
-const OTHER_FUNCTIONS: u32 = 11;
 
 /// What both files of a chart are made from. Functions are made one at a time.
 #[derive(Drop)]

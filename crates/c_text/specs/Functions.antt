@@ -10,6 +10,7 @@ use Rattle.c_subset.specs.declared.trees.CType.{CType}
 use Rattle.c_subset.specs.declared.trees.CType.TheVariants.{Signed, Unsigned, Truth}
 use Rattle.c_subset.specs.Running.{same_type}
 use Rattle.c_subset.specs.Lines.{Line, Set, Store, StoreAt, Call, Select, If, Else, While, Close, Return}
+use Rattle.c_functions.specs.declared.function_offsets.TheConstants.{REACT_OFFSET}
 use Rattle.c_names.specs.Stems.{name_of_chart}
 use Rattle.c_text.specs.declared.kinds.Kind.{Kind}
 use Rattle.c_text.specs.declared.kinds.Kind.TheVariants.{Procedure, Home, Noted, Floor, Outside}
@@ -35,7 +36,7 @@ parameter_types L f Procedure = replicate 5 (Unsigned W32)
 parameter_types L f Home = replicate 1 (Unsigned W32)
 parameter_types L f Noted = replicate 6 (Unsigned W32)
 parameter_types L f (Floor w) = replicate 2 (Signed w)
-parameter_types L f Outside = replicate (if f == L.procs + 10 then 1 else 0) (Unsigned W32)
+parameter_types L f Outside = replicate (if f == L.procs + REACT_OFFSET then 1 else 0) (Unsigned W32)
 
 -- all but what is called from outside is static
 abbrev pub linkage_text : Kind → List ℕ

@@ -14,6 +14,7 @@ use crate::reading::{any_line_reads, any_line_uses_struct, has_cases, is_same_lo
 use crate::statements::{comma, local_of, print_lines};
 use crate::types::print_type;
 use c_functions::WORD;
+use c_functions::function_offsets::REACT_OFFSET;
 use c_names::print_chart_name;
 use c_subset::{CType, Function, Line};
 use std::alloc::{AllocError, Global};
@@ -60,7 +61,7 @@ pub fn print_prototype(
             print_declared(out, labels, number, kind, only_reads, &[of; 2])
         }
         Kind::Outside => {
-            if u64::from(number) == u64::from(labels.procs) + 10 {
+            if u64::from(number) == u64::from(labels.procs) + u64::from(REACT_OFFSET) {
                 print_declared(out, labels, number, kind, only_reads, &[WORD])
             } else {
                 print_declared(out, labels, number, kind, only_reads, &[])

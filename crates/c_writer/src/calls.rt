@@ -10,6 +10,7 @@ ghost use Rattle.c_writer.specs.Pieces.{tested_result};
 use crate::pieces::{local, put_return};
 use c_expression_writer::{BAD, FileShape, number, put};
 use c_functions::WORD;
+use c_functions::function_offsets::{BARE_OFFSET, NOTED_OFFSET};
 use c_subset::{Arithmetic, CExpr, CType, Comparison, Line};
 use flow_base::{List, Memory};
 use std::alloc::Global;
@@ -174,12 +175,12 @@ pub(crate) fn on_function(shape: &FileShape<'_>) -> u32
 pub(crate) fn bare_function(shape: &FileShape<'_>) -> u32
     ensures { result ≡ spec.bare_function (shape_seen shape.now) }
 {
-    shape.procs + 1
+    shape.procs + BARE_OFFSET
 }
 
 /// The function that calls a noted procedure.
 pub(crate) fn noted_function(shape: &FileShape<'_>) -> u32
     ensures { result ≡ spec.noted_function (shape_seen shape.now) }
 {
-    shape.procs + 2
+    shape.procs + NOTED_OFFSET
 }

@@ -1,8 +1,8 @@
 //! What both files of a chart are made from.
 use crate::said::Said;
-use c_expression_writer::FileShape;
 use c_functions::function_offsets::OTHER_FUNCTIONS;
 use c_loops::with_loop;
+use c_shape::FileShape;
 use c_subset::Function;
 use c_text::Labels;
 use c_writer::function;

@@ -7,13 +7,13 @@ ghost use Rattle.c_functions.specs.declared.function_offsets.TheConstants.{OTHER
 ghost use Rattle.c_functions.specs.Writer.{plans_of};
 ghost use Rattle.c_functions.specs.Files.{procedure_c};
 ghost use Rattle.c_functions.specs.Starts.{file_of};
-ghost use Rattle.c_expression_writer.specs.FileShapes.{shape_seen};
+ghost use Rattle.c_shape.specs.FileShapes.{shape_seen};
 ghost use Rattle.c_writer.specs.Functions.{HasFunction, IsAt, IsShapeOf, later_functions};
 
 use crate::helpers::{Home, floor_function, home_function, noted_caller};
 use crate::procedures::procedure;
 use crate::starts::{init_function, react_function, start_function};
-use c_expression_writer::FileShape;
+use c_shape::FileShape;
 use c_subset::{Function, Width};
 use code_language::{Code, Instr};
 use flow_base::Memory;

@@ -4,7 +4,7 @@ ghost use Rattle.fixed_point.specs.declared.reading.TheConstants.{DIGIT_LIMIT};
 
 /// 2 to the exponent.
 #[inline(always)]
-pub(crate) fn power_of_two(exponent: u32) -> i128
+pub fn power_of_two(exponent: u32) -> i128
     requires { exponent < 127 }
     ensures { result ≡ pos (2 ^ exponent) }
 {

@@ -5,7 +5,7 @@ use Rattle.code_language.specs.Code.{code_of}
 use Rattle.c_functions.specs.Writer.{plans_of}
 use Rattle.c_functions.specs.Files.{shape_of}
 use Rattle.c_functions.specs.Starts.{file_of}
-use Rattle.c_expression_writer.specs.FileShapes.{tests_seen}
+use Rattle.c_shape.specs.FileShapes.{tests_seen}
 use Rattle.c_file.specs.Files.{IsMadeFor}
 use Rattle.c_file.proofs.SourceLemmas.{facts_hold, may_change, header_is, same_lines, source_is}
 use Rattle.c_file.proofs.file.files.Goals as goal

@@ -2,7 +2,7 @@
 use Rattle.std.proofs.Common.{◌≡◌, ℕ, Bool, true, false, nat_eq, List, [], ◌∷◌, Option, Some, None, refl, sym, subst}
 use Rattle.std.specs.Prelude.{if◌then◌else◌, option_map}
 use Rattle.code_fields.specs.Cuts.{Parts, parts_with, parts_at}
-use Rattle.code_text.specs.Lines.{Cut, begun_with, line_then, cut_of}
+use Rattle.code_fields.specs.Lines.{Cut, begun_with, line_then, cut_of}
 
 -- a cut that begins with the parts round the first newline, if there is one
 abbrev CutFrom : Option Parts → List ℕ → Cut → Type 0
@@ -12,7 +12,8 @@ CutFrom (Some parts) text cut = cut ≡ line_then parts.front (cut_of parts.rest
 -- a text with one more byte in front is cut as its parts say
 cut_begun : (b : ℕ) (text : List ℕ) (newline : Bool) (parts : Option Parts) (cut : Cut) → cut_of text ≡ cut
     → CutFrom parts text cut
-    → CutFrom (if newline then Some (record { front = []; rest = text }) else option_map (parts_with b) parts) (b ∷ text) (if newline then line_then [] cut else begun_with b cut.lines cut.rest)
+    → CutFrom (if newline then Some (record { front = []; rest = text }) else option_map (parts_with b) parts)
+    (b ∷ text) (if newline then line_then [] cut else begun_with b cut.lines cut.rest)
 cut_begun b text true parts cut e h = rw e refl
 cut_begun b text false None cut e h = rw h refl
 cut_begun b text false (Some parts) cut e h = rw h refl

@@ -1,5 +1,5 @@
--- A text cut into its whole lines.
-use Rattle.std.specs.Prelude.{ℕ, nat_eq, List, [], ◌∷◌, if◌then◌else◌}
+-- A text cut into its whole lines, and how a fault names one.
+use Rattle.std.specs.Prelude.{ℕ, nat_eq, List, [], ◌∷◌, ◌++◌, Option, Some, None, codes, decimal, if◌then◌else◌}
 
 -- the whole lines of a text, each without its newline, and what stands after the last newline
 pub record Cut : Type 0 where
@@ -21,3 +21,8 @@ cut_of [] = record { lines = []; rest = [] }
 cut_of (b ∷ text) =
     if nat_eq b 10 then line_then [] (cut_of text)
     else begun_with b (cut_of text).lines (cut_of text).rest
+
+-- the number of a line after a space
+abbrev pub line_words : Option ℕ → List ℕ
+line_words None = []
+line_words (Some line) = codes " " ++ decimal line

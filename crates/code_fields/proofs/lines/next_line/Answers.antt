@@ -1,11 +1,11 @@
 use Rattle.std.proofs.Common.{◌≡◌, ℕ, List, [], Option, Some, None}
 use Rattle.std.specs.Prelude.{option_map, MatchOption}
-use Rattle.net_text.specs.Lines.{cut_of, line_then}
+use Rattle.code_fields.specs.Lines.{cut_of, line_then}
 use Rattle.code_fields.specs.Cuts.{parts_at}
 use Rattle.code_fields.specs.Views.{parts_of}
 use Rattle.code_fields.specs.declared.cuts.Parts.{Parts}
-use Rattle.net_text.proofs.CutLemmas.{cut_of-line, cut_of-rest}
-use Rattle.net_text.proofs.reader.next_line.Goals as goal
+use Rattle.code_fields.proofs.LineCuts.{cut_of-line, cut_of-rest}
+use Rattle.code_fields.proofs.lines.next_line.Goals as goal
 
 -- the first line is what stands before the first newline
 first_line : (text : List ℕ) (o : Option Parts) → option_map parts_of o ≡ parts_at 10 text

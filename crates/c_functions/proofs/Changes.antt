@@ -6,7 +6,7 @@ use Rattle.std.proofs.Common.{get_or-set_same, get_or-set_other, w32}
 use Rattle.std.specs.Int.{bit_at}
 use Rattle.std.proofs.lemmas.Nat.{or_lt, and_le_l}
 use Rattle.std.proofs.lemmas.Nat.Bits.{bit_at_and, bit_at_or, bit_at-pow_same, bit_at-pow_other, bit_at_not, bit_at-lt}
-use Rattle.active_config.specs.Tree.{Tree, state_count, parent_of, comp_of}
+use Rattle.active_config.specs.Tree.{Tree, state_count, parent_of, comp_of, is_or}
 use Rattle.active_config.proofs.TableLemmas.{same_or_other}
 use Rattle.c_subset.specs.Trees.{CExpr, Const, Field, Bits, Block}
 use Rattle.c_subset.specs.declared.trees.Width.{Width}
@@ -19,7 +19,7 @@ use Rattle.c_subset.specs.Trees.{Store as PutField}
 use Rattle.c_subset.specs.Meaning.{bits, CValue, Meaning, with_meaning, gives, converted, combined, combined_in}
 use Rattle.c_subset.specs.Meaning.{bits_of, Object, read, Store, Locals, meaning}
 use Rattle.c_subset.specs.Running.{Calls, with_value, object_of, brought_to, with_field, outcome}
-use Rattle.c_functions.specs.States.{States, is_or, or_parent, choose_child, set_flag}
+use Rattle.c_functions.specs.States.{States, or_parent, choose_child, set_flag}
 use Rattle.c_functions.specs.Layout.{Layout, HasBit, IsLayout, HoldsStates, put_number, put_bit, Changes}
 use Rattle.c_functions.proofs.Tests.{unsigned, own-stays, word_stays, bit-small}
 

@@ -7,7 +7,7 @@ use Rattle.std.proofs.Math.ListN.{get_or-eq_default}
 use Rattle.std.specs.Prelude.{◌⊎◌, ◌==◌, slice_set, if◌then◌else◌}
 use Rattle.active_config.specs.declared.comp.Comp.{Comp}
 use Rattle.active_config.specs.declared.comp.Comp.TheVariants.{Leaf, Or, And}
-use Rattle.active_config.specs.Tree.{Tree, state_count, parent_of, comp_of}
+use Rattle.active_config.specs.Tree.{Tree, state_count, parent_of, comp_of, is_or}
 use Rattle.active_config.specs.Marks.{Configuration, mark_count, is_on, is_bare, last_of, with_mark, with_last}
 use Rattle.active_config.specs.Marks.{takes_child, parent_takes_child, can_mark, IsConsistent}
 use Rattle.active_config.proofs.ParentLemmas.{child_within}
@@ -15,7 +15,7 @@ use Rattle.active_config.proofs.TableLemmas.{same_or_other}
 use Rattle.active_config.proofs.MarksLemmas.{bare_is_on, bare_child_off, is_on-with_mark_same, is_on-with_mark_other}
 use Rattle.active_config.proofs.MarksLemmas.{last_of-with_mark}
 use Rattle.active_config.proofs.MarksLemmas.{is_on-with_last, last_of-with_last_same, last_of-with_last_other}
-use Rattle.c_functions.specs.States.{States, Numbers, is_or, or_parent, number, c_on, c_bare, choose_child, set_flag}
+use Rattle.c_functions.specs.States.{States, Numbers, or_parent, number, c_on, c_bare, choose_child, set_flag}
 use Rattle.c_functions.specs.States.{c_set, c_unset}
 use Rattle.c_functions.specs.States.{c_takes, c_mark, c_clear, c_keep, keep_by, IsChild, Shows}
 use Rattle.c_functions.proofs.Showing.{on_is, bare_is, or_parent_is, or_parent_at, same_self, differ}

@@ -3,7 +3,7 @@ use Rattle.std.proofs.Common.{◌≡◌, ℕ, ◌+◌, ◌^◌, ◌<◌, nat_eq,
 use Rattle.std.proofs.Common.{List, [], ◌∷◌, length, Option, Some, None, refl, sym, ap, ◌∙◌, subst}
 use Rattle.std.proofs.Common.{arith}
 use Rattle.std.proofs.lemmas.Bool.Decides.{nat_tests}
-use Rattle.active_config.specs.Tree.{state_count, parent_of, comp_of, children_of}
+use Rattle.active_config.specs.Tree.{state_count, parent_of, comp_of, children_of, is_or}
 use Rattle.actions.specs.declared.event.Event.{Event}
 use Rattle.actions.specs.declared.event.Event.TheVariants as events
 use Rattle.actions.specs.Work.{Now, is_event}
@@ -15,7 +15,7 @@ use Rattle.c_subset.specs.Running.{Calls}
 use Rattle.c_functions.specs.Claims.{Has}
 use Rattle.c_functions.proofs.Operators.{bang-has}
 use Rattle.c_functions.proofs.Storing.{flag-const}
-use Rattle.c_functions.specs.States.{is_or, or_parent}
+use Rattle.c_functions.specs.States.{or_parent}
 use Rattle.c_functions.specs.Statements.{CMemory, Locals as Inner, Check}
 use Rattle.c_functions.specs.Statements as plan
 use Rattle.c_functions.specs.Meaning as p

@@ -3,9 +3,9 @@ use Rattle.std.proofs.Common.{◌≡◌, ℕ, List, [], ◌∷◌, Option, Some,
 use Rattle.std.proofs.Common.{ap, ◌∙◌}
 use Rattle.std.specs.Prelude.{slice_index_or, if◌then◌else◌}
 use Rattle.std.specs.List.{list_any}
-use Rattle.active_config.specs.Tree.{parent_of, comp_of, children_of}
+use Rattle.active_config.specs.Tree.{parent_of, comp_of, children_of, is_or}
 use Rattle.actions.specs.Work.{Now}
-use Rattle.c_functions.specs.States.{is_or, or_parent, c_on, on_by, c_bare, childless_by, c_last, last_by, c_takes}
+use Rattle.c_functions.specs.States.{or_parent, c_on, on_by, c_bare, childless_by, c_last, last_by, c_takes}
 use Rattle.c_functions.specs.States.{c_set, c_unset, c_mark, c_clear}
 use Rattle.c_functions.specs.Statements.{CMemory, Locals, Check, Out, Fell, End, Both, Not, Flag}
 use Rattle.c_functions.specs.Meaning.{CProgram, Calls, check, exec, branch, and_on, with_states}

@@ -6,7 +6,7 @@ use Rattle.std.proofs.Common.{refl, sym, ap, ◌∙◌, subst, arith, mod-lt, mo
 use Rattle.std.proofs.lemmas.Bool.Decides.{nat_tests}
 use Rattle.flow_base.specs.declared.fault.Fault.{Fault}
 use Rattle.flow_base.specs.declared.fault.Fault.TheVariants as faults
-use Rattle.active_config.specs.Tree.{state_count, parent_of, comp_of}
+use Rattle.active_config.specs.Tree.{state_count, parent_of, comp_of, is_or}
 use Rattle.actions.specs.Data.{HaveTheirSorts}
 use Rattle.actions.specs.Work.{Now}
 use Rattle.actions.specs.World.{of_data, of_names}
@@ -19,7 +19,7 @@ use Rattle.c_subset.specs.Running.{Outcome, Falls, Returns, Calls, and_on, with_
 use Rattle.c_subset.specs.Running.{outcome}
 use Rattle.c_functions.specs.Claims.{Has}
 use Rattle.c_functions.specs.Code.{Returning}
-use Rattle.c_functions.specs.States.{States, is_or, or_parent, choose_child, set_flag}
+use Rattle.c_functions.specs.States.{States, or_parent, choose_child, set_flag}
 use Rattle.c_functions.specs.Statements.{CMemory, Locals as Inner, Out, Fell, Left, Failed, Starved, Wrong}
 use Rattle.c_functions.specs.Statements as plan
 use Rattle.c_functions.specs.Meaning as p

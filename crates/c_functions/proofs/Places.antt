@@ -6,8 +6,7 @@ use Rattle.std.proofs.lemmas.List.Sums.{sum_by-cons}
 use Rattle.std.specs.List.{count_by}
 use Rattle.active_config.specs.declared.comp.Comp.{Comp}
 use Rattle.active_config.specs.declared.comp.Comp.TheVariants.{Leaf}
-use Rattle.active_config.specs.Tree.{Tree, state_count, comp_of}
-use Rattle.c_functions.specs.States.{is_or}
+use Rattle.active_config.specs.Tree.{Tree, state_count, comp_of, is_or}
 use Rattle.c_functions.specs.Layout.{IsLayout, or_count, or_rank, layout_after}
 
 -- ---- how many ORs there are

@@ -6,11 +6,12 @@ use Rattle.std.specs.Prelude.{◌⊎◌, ◌==◌, slice_index_or}
 use Rattle.std.specs.List.{filter, list_any, range_with_len}
 use Rattle.std.specs.Option.{option_map_or}
 use Rattle.active_config.specs.Tree.{Tree, state_count, parent_of, comp_of, is_child, children_below, children_of}
+use Rattle.active_config.specs.Tree.{is_or}
 use Rattle.active_config.specs.Marks.{Configuration, is_on, is_bare, is_last, is_this, last_of, IsConsistent}
 use Rattle.active_config.proofs.ParentLemmas.{child_within}
 use Rattle.active_config.proofs.ChildLemmas.{parent_of_child, child_of_parent}
 use Rattle.active_config.proofs.MarksLemmas.{none_in_range}
-use Rattle.c_functions.specs.States.{States, Numbers, is_or, or_parent, number, c_on, on_by, c_bare, childless_by}
+use Rattle.c_functions.specs.States.{States, Numbers, or_parent, number, c_on, on_by, c_bare, childless_by}
 use Rattle.c_functions.specs.States.{c_last, last_by}
 use Rattle.c_functions.specs.States.{IsChild, Shows}
 

@@ -4,7 +4,7 @@ use Rattle.std.proofs.Common.{List, [], ◌∷◌, length, drop, Option, Some, N
 use Rattle.std.proofs.Common.{subst, arith}
 use Rattle.std.specs.Option.{option_map_or}
 use Rattle.std.proofs.lemmas.Bool.Decides.{nat_tests}
-use Rattle.active_config.specs.Tree.{Tree, state_count, parent_of, comp_of}
+use Rattle.active_config.specs.Tree.{Tree, state_count, parent_of, comp_of, is_or}
 use Rattle.actions.specs.Work.{Now}
 use Rattle.code_language.specs.Instrs.{Cond, Instr}
 use Rattle.code_language.specs.Instrs as i
@@ -17,7 +17,7 @@ use Rattle.c_subset.specs.declared.trees.Width.{Width}
 use Rattle.c_subset.specs.Meaning.{one_if, Store, Locals}
 use Rattle.c_subset.specs.Running.{Outcome, Calls, outcome}
 use Rattle.c_functions.specs.Claims.{Has}
-use Rattle.c_functions.specs.States.{is_or, or_parent}
+use Rattle.c_functions.specs.States.{or_parent}
 use Rattle.c_functions.specs.Statements.{CMemory, Locals as Inner, Check, Out}
 use Rattle.c_functions.specs.Statements as plan
 use Rattle.c_functions.specs.Meaning as p

@@ -5,7 +5,7 @@ use Rattle.std.proofs.Common.{Bool, true, false}
 use Rattle.std.proofs.Common.{refl, sym, ap, ◌∙◌, subst, arith, append-nil, length-append}
 use Rattle.std.proofs.lemmas.List.{drop_all, drop-append-le}
 use Rattle.std.specs.Prelude.{if◌then◌else◌}
-use Rattle.active_config.specs.Tree.{Tree, state_count, comp_of}
+use Rattle.active_config.specs.Tree.{Tree, state_count, comp_of, is_or}
 use Rattle.active_config.specs.Marks.{is_bare, can_mark, with_mark}
 use Rattle.active_config.specs.declared.comp.Comp.{Comp}
 use Rattle.active_config.specs.declared.comp.Comp.TheVariants.{Leaf, Or, And}
@@ -20,7 +20,7 @@ use Rattle.code_language.specs.Instrs as i
 use Rattle.code_language.specs.Machine.{Frame, later, fresh, next}
 use Rattle.code_language.specs.Reach.{with_note, pending}
 use Rattle.code_language.proofs.Notes.{pending_at, pending_past}
-use Rattle.c_functions.specs.States.{Numbers, Shows, is_or, c_mark, c_clear, c_keep}
+use Rattle.c_functions.specs.States.{Numbers, Shows, c_mark, c_clear, c_keep}
 use Rattle.c_functions.specs.Statements.{CMemory, Locals}
 use Rattle.c_functions.specs.Meaning.{with_states, begins}
 use Rattle.c_functions.specs.Written.{IsOrChild}

@@ -10,6 +10,7 @@ use Rattle.std.specs.List.{find, range_with_len}
 use Rattle.active_config.specs.declared.comp.Comp.{Comp}
 use Rattle.active_config.specs.declared.comp.Comp.TheVariants.{Leaf, Or, And}
 use Rattle.active_config.specs.Tree.{Tree, state_count, parent_of, comp_of, is_child, children_of, children_below}
+use Rattle.active_config.specs.Tree.{is_or}
 use Rattle.active_config.specs.Marks.{Configuration, mark_count, is_on, active_child, last_of, IsConsistent}
 use Rattle.active_config.proofs.ParentLemmas.{child_within}
 use Rattle.active_config.proofs.ChildLemmas.{parent_of_child, child_of_parent}
@@ -17,7 +18,7 @@ use Rattle.active_config.proofs.SiblingLemmas.{is_first, is_none}
 use Rattle.active_config.proofs.RangeLemmas.{find-filter}
 use Rattle.active_config.proofs.MarksLemmas.{on_past}
 use Rattle.active_config.proofs.TableLemmas.{same_or_other}
-use Rattle.c_functions.specs.States.{States, Numbers, is_or, or_parent, number, IsChild, Shows, choice, flag_by, shown}
+use Rattle.c_functions.specs.States.{States, Numbers, or_parent, number, IsChild, Shows, choice, flag_by, shown}
 use Rattle.c_functions.proofs.Showing.{on_is, or_parent_is, same_self, same_is, differ}
 use Rattle.c_functions.proofs.Changing.{or_within}
 

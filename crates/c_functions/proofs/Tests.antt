@@ -10,6 +10,7 @@ use Rattle.std.proofs.lemmas.Nat.Bits.{and_pow}
 use Rattle.std.proofs.lemmas.Bool.Decides.{nat_tests}
 use Rattle.fixed_point.proofs.Powers.{power-le}
 use Rattle.active_config.specs.Tree.{Tree, state_count, parent_of, comp_of, is_child, children_below, children_of}
+use Rattle.active_config.specs.Tree.{is_or}
 use Rattle.active_config.specs.Marks.{Configuration, mark_count}
 use Rattle.c_subset.specs.declared.trees.Width.{Width}
 use Rattle.c_subset.specs.declared.trees.Width.TheVariants.{W8, W16, W32, W64, W128}
@@ -26,7 +27,7 @@ use Rattle.c_subset.specs.Meaning.{Locals, meaning}
 use Rattle.c_functions.specs.Claims.{Has, ShowsActive}
 use Rattle.c_functions.proofs.Operators.{bang-has}
 use Rattle.c_functions.proofs.Deciding.{both-decides}
-use Rattle.c_functions.specs.States.{States, Shows, is_or, or_parent, on_by, c_on, c_bare, childless_by, last_by}
+use Rattle.c_functions.specs.States.{States, Shows, or_parent, on_by, c_on, c_bare, childless_by, last_by}
 use Rattle.c_functions.proofs.Showing.{on_is, or_parent_is}
 use Rattle.c_functions.specs.Layout.{Layout, HasBit, IsLayout, HoldsStates, number_test, bit_test, on_by_c}
 use Rattle.c_functions.specs.Layout.{and_no_bits, and_childless_c, bare_c, on_c, last_c}

@@ -6,8 +6,7 @@ use Rattle.std.proofs.lemmas.Bool.Decides.{nat_tests}
 use Rattle.std.proofs.lemmas.List.{drop_all}
 use Rattle.active_config.specs.declared.comp.Comp.{Comp}
 use Rattle.active_config.specs.declared.comp.Comp.TheVariants.{Leaf, Or, And}
-use Rattle.active_config.specs.Tree.{Tree, state_count, parent_of, comp_of}
-use Rattle.checked_chart.specs.Chart.{is_or as is_or_state}
+use Rattle.active_config.specs.Tree.{Tree, state_count, parent_of, comp_of, is_or}
 use Rattle.code_language.specs.Code.{Code, instructions}
 use Rattle.code_language.specs.Instrs.{Cond, Instr}
 use Rattle.code_language.specs.Instrs as i
@@ -15,7 +14,6 @@ use Rattle.code_language.specs.Sound.{AreSound}
 use Rattle.code_language.specs.WellFormed.{Known, known_of, IsCode, can_be_kept, instr_known, instr_keeps}
 use Rattle.code_language.specs.WellFormed.{skips_within}
 use Rattle.code_language.proofs.Sound.{both_true, code_parts, proc_at, instructions_at, or_none}
-use Rattle.c_functions.specs.States.{is_or}
 use Rattle.c_functions.specs.Statements.{Block}
 use Rattle.c_functions.specs.Statements as c
 use Rattle.c_functions.specs.Written.{straight, IsOrChild, IsStraight, Written, Stops, Steps, Returns, Skips}
@@ -213,19 +211,13 @@ module _ (t : Tree) (n : ℕ → ℕ) (react : ℕ) where
 
 -- ---- well-formed code
 
--- the two words for an OR are one
-or_same : (k : Comp) → is_or_state k ≡ true → is_or k ≡ true
-or_same Leaf e = absurd cc
-or_same Or e = refl
-or_same And e = absurd cc
-
 -- a state that can be remembered is a child of an OR
 child_of_or : (t : Tree) (s : ℕ) → can_be_kept t s ≡ true → IsOrChild t s
 child_of_or t s e = at (parent_of t s) refl e
   where
     at : (o : Option ℕ) → parent_of t s ≡ o → can_be_kept t s ≡ true → IsOrChild t s
     at None up kept = absurd cc
-    at (Some p) up kept = record { parent = p; up = up; or = or_same (comp_of t p) (rw up at kept) }
+    at (Some p) up kept = record { parent = p; up = up; or = rw up at kept }
 
 -- an instruction that is known and keeps what can be remembered knows its state
 knows_state : (K : Known) (x : Instr) → instr_known K x ≡ true → instr_keeps K x ≡ true → KnowsState K.tree x

@@ -1,7 +1,7 @@
 //! What holds of the plans of C functions, and of the fields of states.
 ghost use Rattle.std.specs.Prelude.{◌≡◌, ◌<◌, ℕ, suc, pred, List, [], length, true, false, Some};
 ghost use Rattle.std.specs.Prelude.{if◌then◌else◌};
-ghost use Rattle.active_config.specs.Tree.{Tree, state_count, parent_of, comp_of};
+ghost use Rattle.active_config.specs.Tree.{Tree, state_count, parent_of, comp_of, is_or};
 ghost use Rattle.active_config.specs.Marks.{Configuration, is_on, is_bare, is_last, can_mark};
 ghost use Rattle.active_config.specs.Marks.{with_mark, with_last, no_marks, IsConsistent};
 ghost use Rattle.flow_base.specs.declared.bounds.Bounds.{Bounds};
@@ -19,7 +19,7 @@ ghost use Rattle.c_functions.specs.Written.{AreWritten};
 ghost use Rattle.c_functions.specs.Writer.{plans_of};
 ghost use Rattle.c_functions.specs.Runs.{Agree, CallsDo, EndsWith, EndsAsCode, Stuck, Stands};
 ghost use Rattle.c_functions.specs.Runs.{own_sums, world_of};
-ghost use Rattle.c_functions.specs.States.{States, Numbers, Shows, is_or, shown, no_fields};
+ghost use Rattle.c_functions.specs.States.{States, Numbers, Shows, shown, no_fields};
 ghost use Rattle.c_functions.specs.States.{place_number, c_on, c_bare, c_last, c_mark, c_clear};
 ghost use Rattle.c_functions.specs.States.{c_keep};
 

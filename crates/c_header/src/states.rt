@@ -16,7 +16,7 @@ use crate::paths::{Form, name_of, print_path, print_place, print_state_label};
 use crate::words::print_named;
 use active_config::Shape;
 use c_shape::FileShape;
-use c_text::{Labels, is_or, print_test};
+use c_text::{Labels, print_test};
 use code_fields::print_number;
 use std::alloc::{AllocError, Global};
 
@@ -69,14 +69,14 @@ fn print_state(
 {
     match about {
         About::Active => {
-            if is_or(shape.tree.comp(state)) {
+            if shape.tree.comp(state).is_or() {
                 print_active(out, chart, labels, shape, state)
             } else {
                 Ok(())
             }
         }
         About::Remembered => {
-            if is_or(shape.tree.comp(state)) {
+            if shape.tree.comp(state).is_or() {
                 print_last(out, chart, labels, shape, state)
             } else {
                 Ok(())

@@ -3,10 +3,9 @@ use Rattle.std.proofs.Common.{◌≡◌, ℕ, ◌+◌, ◌<◌, ◌≤◌, Bool,
 use Rattle.std.proofs.Common.{get_or, cond, count_by, refl, ap, sym, subst, ◌∙◌, arith, below_more}
 use Rattle.std.proofs.lemmas.List.{take_all, get_or_push, get_or_append_left, length-append}
 use Rattle.std.proofs.lemmas.List.Sums.{sum_by_more}
-use Rattle.active_config.specs.Tree.{Tree, IsTree, state_count, comp_of}
+use Rattle.active_config.specs.Tree.{Tree, IsTree, state_count, comp_of, is_or}
 use Rattle.active_config.specs.declared.comp.Comp.{Comp}
 use Rattle.active_config.specs.declared.comp.Comp.TheVariants.{Leaf}
-use Rattle.c_functions.specs.States.{is_or}
 use Rattle.c_functions.specs.Layout.{or_count, or_rank}
 use Rattle.c_shape.specs.Parts.{AreRanks}
 

@@ -1,7 +1,6 @@
 //! How many ORs stand before each state.
 ghost use Rattle.std.specs.Prelude.{◌≡◌, ◌<◌, IfOk, if◌then◌else◌};
-ghost use Rattle.active_config.specs.Tree.{comp_of, state_count};
-ghost use Rattle.c_functions.specs.States.{is_or};
+ghost use Rattle.active_config.specs.Tree.{comp_of, state_count, is_or};
 ghost use Rattle.c_shape.specs.Parts.{AreRanks};
 
 use active_config::{Comp, Shape};

@@ -48,32 +48,6 @@ fn default_list(numbering: &Numbering<'_>, state: u32) -> u32
     numbering.list(state, ListKind::Default)
 }
 
-/// Whether a state has history. Only an OR does.
-#[tactic(auto, unfolding(checked_chart::specs::Chart::has_history))]
-fn has_history(numbering: &Numbering<'_>, state: u32) -> bool
-    requires numbers { IsNumbering numbering.now }
-    requires state { state < state_count (chart_in numbering.now).tree }
-    ensures { result ≡ charts.has_history (chart_in numbering.now) state }
-{
-    match numbering.chart.comp(state) {
-        Comp::Leaf | Comp::And => false,
-        Comp::Or => numbering.chart.history(state),
-    }
-}
-
-/// Whether the parent of a state has history.
-#[tactic(auto, unfolding(checked_chart::specs::Chart::is_remembered))]
-fn is_remembered(numbering: &Numbering<'_>, state: u32) -> bool
-    requires numbers { IsNumbering numbering.now }
-    requires state { state < state_count (chart_in numbering.now).tree }
-    ensures { result ≡ charts.is_remembered (chart_in numbering.now) state }
-{
-    match numbering.chart.parent(state) {
-        None => false,
-        Some(parent) => has_history(numbering, parent),
-    }
-}
-
 /// The children that a state may enter again by history.
 #[tactic(auto, unfolding(checked_chart::specs::Chart::may_return))]
 fn may_return(alloc: Global, numbering: &Numbering<'_>, state: u32) -> Result<List<u32>, Memory>
@@ -84,7 +58,7 @@ fn may_return(alloc: Global, numbering: &Numbering<'_>, state: u32) -> Result<Li
     ensures within { IfOk result (λ list.
         AllByRecursion (λ x. x < state_count (chart_in numbering.now).tree) (items_of list)) }
 {
-    if has_history(numbering, state) {
+    if numbering.chart.has_history(state) {
         return children(alloc, numbering.chart.shape(), state);
     }
     Ok(List::of(Vec::new(alloc)))
@@ -120,7 +94,7 @@ fn put_keep(code: &mut List<Instr>, numbering: &Numbering<'_>, state: u32) -> Re
     ensures { OnOk result ((rest : Instrs) → code_seen code.new ++ rest ≡ code_seen code.old
         ++ templates.keep_code (charts.is_remembered (chart_in numbering.now) state) state rest) }
 {
-    if is_remembered(numbering, state) {
+    if numbering.chart.is_remembered(state) {
         put(code, Instr::Keep(state))?;
     }
     Ok(())

@@ -7,6 +7,7 @@ use Rattle.std.proofs.lemmas.Simd.{map-map}
 use Rattle.std.proofs.lemmas.List.{get_or-map, length-map}
 use Rattle.std.proofs.lemmas.List.FromFn.{length-map-range_with_len, get_or-map-range_with_len}
 use Rattle.std.specs.Option.{option_map_or}
+use Rattle.std.proofs.lemmas.Bool.{and_parts}
 use Rattle.fixed_point.specs.declared.fitting.Mode.TheVariants.{Saturate}
 use Rattle.flow_base.specs.declared.fault.Fault.{Fault}
 use Rattle.flow_base.specs.declared.fault.Fault.TheVariants as faults
@@ -37,7 +38,6 @@ use Rattle.code_language.specs.WellFormed.{Known, is_plain, is_flag, is_assigned
 use Rattle.code_language.specs.WellFormed.{cond_typed}
 use Rattle.code_language.proofs.AssignLemmas.{IsTyped, got_within}
 use Rattle.code_language.proofs.ExprFaults.{Gives, Any, value_gives}
-use Rattle.code_language.proofs.Sound.{both_true}
 use Rattle.c_subset.specs.Trees.{CExpr, Block, If}
 use Rattle.c_subset.specs.declared.trees.Width.{Width}
 use Rattle.c_subset.specs.declared.trees.Width.TheVariants.{W32}
@@ -81,7 +81,7 @@ pub assign_typed : (K : Known) (v : ℕ) (e : Expr) → instr_typed K (Assign v 
 unfolding instr_typed
 assign_typed K v e h =
     at (slice_get K.names.vars v) refl
-    (both_true (is_plain e)
+    (and_parts (is_plain e)
     (option_map_or (λ decl. takes decl (sort_of (scope_of K.names) e)) (slice_get K.names.vars v) false) h).1
   where
     none_of : (o : Option ExprFault) → is_fine o ≡ true → o ≡ None
@@ -96,7 +96,7 @@ assign_typed K v e h =
       sort = sort;
       sorted = q;
       takes = none_of (assignment_fault decl.sort sort)
-          (both_true (is_assigned decl.kind) (is_fine (assignment_fault decl.sort sort)) h).1;
+          (and_parts (is_assigned decl.kind) (is_fine (assignment_fault decl.sort sort)) h).1;
     }
     given decl is (Err fault) q h = absurd cc
 
@@ -110,7 +110,7 @@ pub test_typed : (K : Known) (j : ℕ) (e : Expr) → instr_typed K (Unless j (T
     → sort_of (scope_of K.names) e ≡ Ok kinds.Flag
 unfolding instr_typed cond_typed
 test_typed K j e h =
-    at (sort_of (scope_of K.names) e) (both_true (is_plain e) (is_flag (sort_of (scope_of K.names) e)) h).1
+    at (sort_of (scope_of K.names) e) (and_parts (is_plain e) (is_flag (sort_of (scope_of K.names) e)) h).1
   where
     at : (s : Sorted) → is_flag s ≡ true → s ≡ Ok kinds.Flag
     at (Ok kinds.Flag) h = refl

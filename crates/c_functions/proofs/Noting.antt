@@ -4,10 +4,11 @@ use Rattle.std.proofs.Common.{length, Option, Some, None, slice_get, slice_index
 use Rattle.std.proofs.lemmas.Bool.Decides.{nat_tests}
 use Rattle.std.specs.List.{list_any, range_with_len}
 use Rattle.std.specs.Prelude.{filter}
+use Rattle.std.proofs.lemmas.Bool.{and_parts}
 use Rattle.code_language.specs.Instrs.{Instr}
 use Rattle.code_language.specs.Instrs as i
 use Rattle.code_language.specs.WellFormed.{Known, is_proc, note_known, instr_known}
-use Rattle.code_language.proofs.Sound.{both_true, proc_there}
+use Rattle.code_language.proofs.Sound.{proc_there}
 use Rattle.c_functions.specs.Notes.{is_note, has_note, is_noted, noted_in}
 
 -- a number is one of a list
@@ -79,8 +80,8 @@ note-below K b (Some q) known is =
 
 known-below : (K : Known) (b : ℕ) (x : Instr) → instr_known K x ≡ true → has_note b x ≡ true → b < K.procs
 unfolding instr_known
-known-below K b (i.Call p tag) known is = note-below K b tag (both_true (is_proc K p) (note_known K tag) known).1 is
-known-below K b (i.Visit p tag) known is = note-below K b tag (both_true (is_proc K p) (note_known K tag) known).1 is
+known-below K b (i.Call p tag) known is = note-below K b tag (and_parts (is_proc K p) (note_known K tag) known).1 is
+known-below K b (i.Visit p tag) known is = note-below K b tag (and_parts (is_proc K p) (note_known K tag) known).1 is
 known-below K b other known is = absurd cc
 
 pub noted-there : (K : Known) (procs : List (List Instr)) (q j b : ℕ) (x : Instr) → K.procs ≡ length procs

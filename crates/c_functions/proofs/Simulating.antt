@@ -4,6 +4,7 @@ use Rattle.std.proofs.Common.{List, [], ◌∷◌, length, drop, Option, Some, N
 use Rattle.std.proofs.Common.{subst, arith}
 use Rattle.std.specs.Option.{option_map_or}
 use Rattle.std.proofs.lemmas.Bool.Decides.{nat_tests}
+use Rattle.std.proofs.lemmas.Bool.{and_parts}
 use Rattle.active_config.specs.Tree.{Tree, state_count, parent_of, comp_of, is_or}
 use Rattle.actions.specs.Work.{Now}
 use Rattle.code_language.specs.Instrs.{Cond, Instr}
@@ -11,7 +12,6 @@ use Rattle.code_language.specs.Instrs as i
 use Rattle.code_language.specs.WellFormed.{Known, is_state, is_event, is_proc, note_known, instr_known}
 use Rattle.code_language.specs.WellFormed.{cond_known, instr_typed, instr_keeps}
 use Rattle.code_language.specs.WellFormed.{cond_keeps}
-use Rattle.code_language.proofs.Sound.{both_true}
 use Rattle.c_subset.specs.Trees.{Block}
 use Rattle.c_subset.specs.declared.trees.Width.{Width}
 use Rattle.c_subset.specs.Meaning.{one_if, Store, Locals}
@@ -335,18 +335,18 @@ module _ (K : Shape) (int : Width) (fit : IsFit K int) (bodies : ℕ → plan.Bl
   step-does (i.Unless j x) rest is good sets go = absurd is
   step-does (i.Skip j) rest is good sets go = absurd is
   step-does (i.Call q tag) rest is good sets go =
-      let known = both_true (is_proc (known_in K) q) (note_known (known_in K) tag) good.known in
+      let known = and_parts (is_proc (known_in K) q) (note_known (known_in K) tag) good.known in
       call-does q tag rest good.fails (below q K.procs known.0) (λ b e. good.noted b (tag-noted tag b e))
       (good.lower q tag refl)
       go
   step-does (i.Visit q tag) rest is good sets go =
-      let known = both_true (is_proc (known_in K) q) (note_known (known_in K) tag) good.known in
+      let known = and_parts (is_proc (known_in K) q) (note_known (known_in K) tag) good.known in
       visit-does q tag rest good.fails (below q K.procs known.0) (λ b e. good.noted b (tag-noted tag b e)) go
   step-does (i.Send e) rest is good sets go =
       send-does e rest good.fails (below e (length K.names.events) good.known) go
   step-does (i.SendTo e s q) rest is good sets go =
-      let known = both_true (is_event (known_in K) e) _ good.known in
-      let both = both_true (is_state (known_in K) s) (is_proc (known_in K) q) known.1 in
+      let known = and_parts (is_event (known_in K) e) _ good.known in
+      let both = and_parts (is_state (known_in K) s) (is_proc (known_in K) q) known.1 in
       send_to-does e s q rest good.fails (below e (length K.names.events) known.0) (below s (state_count K.tree) both.0)
       (below q K.procs both.1) go
   step-does i.Play rest is good sets go =

@@ -4,6 +4,7 @@ use Rattle.std.proofs.Common.{Bool, true, false, refl, sym, ap, ◌∙◌, subst
 use Rattle.std.specs.Prelude.{◌&&◌, nat_le, slice_get}
 use Rattle.std.proofs.lemmas.Bool.Decides.{nat_tests}
 use Rattle.std.proofs.lemmas.List.{drop_all}
+use Rattle.std.proofs.lemmas.Bool.{and_parts}
 use Rattle.active_config.specs.declared.comp.Comp.{Comp}
 use Rattle.active_config.specs.declared.comp.Comp.TheVariants.{Leaf, Or, And}
 use Rattle.active_config.specs.Tree.{Tree, state_count, parent_of, comp_of, is_or}
@@ -13,7 +14,7 @@ use Rattle.code_language.specs.Instrs as i
 use Rattle.code_language.specs.Sound.{AreSound}
 use Rattle.code_language.specs.WellFormed.{Known, known_of, IsCode, can_be_kept, instr_known, instr_keeps}
 use Rattle.code_language.specs.WellFormed.{skips_within}
-use Rattle.code_language.proofs.Sound.{both_true, code_parts, proc_at, instructions_at, or_none}
+use Rattle.code_language.proofs.Sound.{code_parts, proc_at, instructions_at, or_none}
 use Rattle.c_functions.specs.Statements.{Block}
 use Rattle.c_functions.specs.Statements as c
 use Rattle.c_functions.specs.Written.{straight, IsOrChild, IsStraight, Written, Stops, Steps, Returns, Skips}
@@ -41,7 +42,7 @@ drop_rest (suc k) (suc m) (x ∷ xs) le =
 pub stays_rest : (m : ℕ) (x : Instr) (rest : List Instr) → stays_within (suc m) (x ∷ rest) ≡ true
     → (jump_of x ≤ m) × (stays_within m rest ≡ true)
 stays_rest m x rest e =
-    let h = both_true (nat_le (jump_of x) m) (stays_within m rest) e in
+    let h = and_parts (nat_le (jump_of x) m) (stays_within m rest) e in
     let first : nat_le (jump_of x) m ≡ true = h.0 in (grind (arith, nat_tests), h.1)
 
 stays_none : (m : ℕ) → stays_within m [] ≡ true

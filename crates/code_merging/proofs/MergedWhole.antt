@@ -3,7 +3,7 @@ use Rattle.std.proofs.Common.{◌≡◌, ◌≤◌, ◌<◌, ℕ, zero, suc, ◌
 use Rattle.std.proofs.Common.{Some, refl, sym, ap, ◌∙◌, subst, arith}
 use Rattle.std.specs.Prelude.{slice_get, slice_index, slice_index_or, nat_lt, min}
 use Rattle.std.specs.List.{list_any}
-use Rattle.std.proofs.lemmas.Bool.{lt-ltb, ltb-true}
+use Rattle.std.proofs.lemmas.Bool.{lt-ltb, ltb-true, and_from}
 use Rattle.std.proofs.lemmas.List.{length-map}
 use Rattle.flow_base.specs.Lists.{items_of}
 use Rattle.code_language.specs.declared.code.RawCode.{RawCode}
@@ -15,7 +15,7 @@ use Rattle.code_language.specs.WellFormed.{known_of, with_procs, too_many, start
 use Rattle.code_language.specs.WellFormed.{first_over, unless, procs_fault}
 use Rattle.code_language.specs.declared.fault.CodeKind.TheVariants as kinds
 use Rattle.code_language.specs.declared.limits.TheConstants.{PROC_LIMIT, INSTR_LIMIT, HEIGHT_LIMIT, WORK_LIMIT}
-use Rattle.code_language.proofs.Accepted.{no_procs_fault, none_over, both_true, first_none, holds_none}
+use Rattle.code_language.proofs.Accepted.{no_procs_fault, none_over, first_none, holds_none}
 use Rattle.code_language.proofs.ListLemmas.{or_false}
 use Rattle.code_language.proofs.Measures.{height_measure, work_measure}
 use Rattle.code_language.proofs.Reckoned.{IsMeasure, reckon_is, reckon_bounded}
@@ -231,7 +231,7 @@ module _ (m : ℕ → ℕ) (k : Code) (well : IsCode k) (equal : AreEqual m k.pr
   starts_now : starts_known merged.procedures ≡ true
   starts_now =
       let parts = code_parts k well in
-      both_true (nat_lt (m k.procedures.start) (length procs_now)) (nat_lt (m k.procedures.react) (length procs_now))
+      and_from (nat_lt (m k.procedures.start) (length procs_now)) (nat_lt (m k.procedures.react) (length procs_now))
       (there_now k.procedures.start parts.start) (there_now k.procedures.react parts.react)
 
   -- the code is well formed

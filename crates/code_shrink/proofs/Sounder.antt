@@ -3,7 +3,7 @@ use Rattle.std.proofs.Common.{◌≡◌, ◌≤◌, ◌<◌, ℕ, zero, suc, ◌
 use Rattle.std.proofs.Common.{Option, Some, None}
 use Rattle.std.proofs.Common.{refl, sym, ap, ◌∙◌, subst, arith}
 use Rattle.std.specs.Prelude.{nat_lt, slice_index, ◌==◌, ◌&&◌, not}
-use Rattle.std.proofs.lemmas.Bool.{lt-ltb, ltb-true}
+use Rattle.std.proofs.lemmas.Bool.{lt-ltb, ltb-true, and_from}
 use Rattle.actions.specs.Exprs.{Expr, Lit, Flag, Read, Active, Neg, Not, Bin}
 use Rattle.code_language.specs.Instrs.{Cond, On, Bare, OnHome, BareHome, Current, Result, Test, Last}
 use Rattle.code_language.specs.Instrs.{Instr, Assign, Emit, Mark, Clear, Keep, Unless, Skip, Call, Visit, Send}
@@ -14,7 +14,7 @@ use Rattle.code_language.specs.WellFormed.{is_event, is_proc, expr_known, cond_k
 use Rattle.code_language.specs.WellFormed.{note_known, instr_known, skips_within, calls_lower, cond_typed, instr_typed}
 use Rattle.code_language.specs.WellFormed.{is_ret}
 use Rattle.code_language.specs.WellFormed.{cond_keeps, instr_keeps}
-use Rattle.code_language.proofs.Accepted.{both_true, first_true, second_true}
+use Rattle.code_language.proofs.Accepted.{first_true, second_true}
 use Rattle.code_shrink.specs.Follows.{renamed, note_by, NoteIn, NamesIn, goes_on}
 use Rattle.code_shrink.specs.Smaller.{folded, slide_from, slides, threaded, straight, one_if, count, is_idle, keeps}
 use Rattle.code_shrink.specs.Smaller.{recounted, put_if, smaller}
@@ -156,7 +156,7 @@ module _ (R : ℕ → Bool) (m : ℕ → ℕ) (K : Known) (n : ℕ) (p : ℕ)
       record { known = refl; within = refl; lower = refl; typed = refl; keeps = refl }
   plain_sound (Call q tag) behind behind' g named h = record {
     known =
-        both_true (nat_lt (m q) n) (note_known Now (note_by m tag)) (lt-ltb (m q) n (below q named.0))
+        and_from (nat_lt (m q) n) (note_known Now (note_by m tag)) (lt-ltb (m q) n (below q named.0))
         (note_there tag named.1);
     within = refl;
     lower = lt-ltb (m q) (m p) (lower q named.0 (ltb-true q p h.lower));
@@ -165,7 +165,7 @@ module _ (R : ℕ → Bool) (m : ℕ → ℕ) (K : Known) (n : ℕ) (p : ℕ)
   }
   plain_sound (Visit q tag) behind behind' g named h = record {
     known =
-        both_true (nat_lt (m q) n) (note_known Now (note_by m tag)) (lt-ltb (m q) n (below q named.0))
+        and_from (nat_lt (m q) n) (note_known Now (note_by m tag)) (lt-ltb (m q) n (below q named.0))
         (note_there tag named.1);
     within = refl;
     lower = refl;
@@ -174,9 +174,9 @@ module _ (R : ℕ → Bool) (m : ℕ → ℕ) (K : Known) (n : ℕ) (p : ℕ)
   }
   plain_sound (SendTo e t q) behind behind' g named h = record {
     known =
-        both_true (is_event K e) (is_state K t && nat_lt (m q) n)
+        and_from (is_event K e) (is_state K t && nat_lt (m q) n)
         (first_true (is_event K e) (is_state K t && is_proc K q) h.known)
-        (both_true (is_state K t) (nat_lt (m q) n)
+        (and_from (is_state K t) (nat_lt (m q) n)
         (first_true (is_state K t) (is_proc K q) (second_true (is_event K e) (is_state K t && is_proc K q) h.known))
         (lt-ltb (m q) n (below q named)));
     within = refl;

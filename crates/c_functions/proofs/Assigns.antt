@@ -76,47 +76,6 @@ use Rattle.c_functions.proofs.Stepping.{HasCalls, at-locals, branch-ends}
 
 -- ---- what is declared
 
--- an assignment of well-formed code has such a type
-pub assign_typed : (K : Known) (v : ℕ) (e : Expr) → instr_typed K (Assign v e) ≡ true → IsTyped K.names v e
-unfolding instr_typed
-assign_typed K v e h =
-    at (slice_get K.names.vars v) refl
-    (and_parts (is_plain e)
-    (option_map_or (λ decl. takes decl (sort_of (scope_of K.names) e)) (slice_get K.names.vars v) false) h).1
-  where
-    none_of : (o : Option ExprFault) → is_fine o ≡ true → o ≡ None
-    none_of None h = refl
-    none_of (Some fault) h = absurd cc
-
-    given : (decl : Var) → slice_get K.names.vars v ≡ Some decl → (s : Sorted) → sort_of (scope_of K.names) e ≡ s
-        → takes decl s ≡ true → IsTyped K.names v e
-    given decl is (Ok sort) q h = record {
-      decl = decl;
-      declared = is;
-      sort = sort;
-      sorted = q;
-      takes = none_of (assignment_fault decl.sort sort)
-          (and_parts (is_assigned decl.kind) (is_fine (assignment_fault decl.sort sort)) h).1;
-    }
-    given decl is (Err fault) q h = absurd cc
-
-    at : (o : Option Var) → slice_get K.names.vars v ≡ o
-        → option_map_or (λ decl. takes decl (sort_of (scope_of K.names) e)) o false ≡ true → IsTyped K.names v e
-    at None is h = absurd cc
-    at (Some decl) is h = given decl is (sort_of (scope_of K.names) e) refl h
-
--- a test is a flag
-pub test_typed : (K : Known) (j : ℕ) (e : Expr) → instr_typed K (Unless j (Test e)) ≡ true
-    → sort_of (scope_of K.names) e ≡ Ok kinds.Flag
-unfolding instr_typed cond_typed
-test_typed K j e h =
-    at (sort_of (scope_of K.names) e) (and_parts (is_plain e) (is_flag (sort_of (scope_of K.names) e)) h).1
-  where
-    at : (s : Sorted) → is_flag s ≡ true → s ≡ Ok kinds.Flag
-    at (Ok kinds.Flag) h = refl
-    at (Ok (kinds.Number frac size)) h = absurd cc
-    at (Err fault) h = absurd cc
-
 -- the sorts of data are those that are declared
 scope_sorts : (vals : List Datum) (n : Names) → of_data vals ≡ of_names n
     → map (λ (d : Datum). d.sort) vals ≡ map (λ (v : Var). v.sort) n.vars

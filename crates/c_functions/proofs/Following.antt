@@ -36,26 +36,6 @@ pub fetched : (k : Procedures) (p i : ℕ) (xs : List Instr) → drop i (instruc
 unfolding fetch
 fetched k p i xs e = at_place (instructions k p) i ∙ ap head_of e
 
-drop_none : (k : ℕ) → drop {A = Instr} k [] ≡ []
-drop_none zero = refl
-drop_none (suc k) = refl
-
--- so many more places on
-pub further : (is : List Instr) (i k : ℕ) (x : Instr) (rest : List Instr) → drop i is ≡ x ∷ rest
-    → drop (i + 1 + k) is ≡ drop k rest
-further [] i k x rest e = absurd (cc (e, drop_none i))
-further (y ∷ is) zero k x rest e =
-    let n : zero + 1 + k ≡ suc k = omega arith in ap (λ j. drop j (y ∷ is)) n ∙ ap (λ l. drop k (drop 1 l)) e
-further (y ∷ is) (suc i) k x rest e =
-    let n : suc i + 1 + k ≡ suc (i + 1 + k) = omega arith in
-    ap (λ j. drop j (y ∷ is)) n ∙ further is i k x rest e
-
--- the next place
-pub onward : (is : List Instr) (i : ℕ) (x : Instr) (rest : List Instr) → drop i is ≡ x ∷ rest
-    → drop (i + 1) is ≡ rest
-onward is i x rest e =
-    let n : i + 1 ≡ i + 1 + 0 = omega arith in ap (λ j. drop j is) n ∙ further is i 0 x rest e
-
 -- ---- notes
 
 -- what is pending depends on the note of the top frame alone

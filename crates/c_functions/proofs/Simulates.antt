@@ -27,6 +27,7 @@ use Rattle.code_language.proofs.Steps.{go_mark, go_clear, go_keep, go_skip, go_h
 use Rattle.code_language.proofs.Steps.{go_pass_zero}
 use Rattle.code_language.proofs.Steps.{go_unless_true, go_unless_false, fall_unless, one_step, one_fall, go_play_none}
 use Rattle.code_language.proofs.Steps.{go_play_lame}
+use Rattle.code_language.proofs.Tails.{further, onward}
 use Rattle.c_functions.specs.States.{Numbers, c_mark, c_clear, c_keep, keep_by}
 use Rattle.c_functions.specs.Statements.{CMemory, Locals, Block, Out, Fell, Left, Failed, Starved, Wrong}
 use Rattle.c_functions.specs.Statements as c
@@ -39,7 +40,7 @@ use Rattle.c_functions.specs.Written.{AreWritten}
 use Rattle.c_functions.specs.Runs.{Stands, Stored, Agree, IsAt, DoesCall, CallsDo}
 use Rattle.c_functions.proofs.Showing.{on_is, bare_is, last_is, differ}
 use Rattle.c_functions.proofs.Checks.{on_test, bare_test, last_test, mark_runs, clear_runs}
-use Rattle.c_functions.proofs.Following.{fetched, further, onward, same_pending, later_at, later_over, later_under}
+use Rattle.c_functions.proofs.Following.{fetched, same_pending, later_at, later_over, later_under}
 use Rattle.c_functions.proofs.Following.{got, within_some, past_none, does_on, does_then, moved}
 use Rattle.c_functions.proofs.Following.{left_notes, does_step, does_less, Does}
 use Rattle.c_functions.proofs.Standing.{mark_stands, clear_stands, keep_stands, called, resulted, same_notes, sent_at}
@@ -98,7 +99,7 @@ module _ (t : Tree) (n : ℕ → ℕ) (num : Numbers t n) (same : length t.comps
         (go (with_states (c_mark t n s m.states) m) l (mark_in t s w) r (next f)
         (moved t n k note saved (i.Mark s ∷ rest) rest m l w r f fs h (f.place + 1)
         (with_states (c_mark t n s m.states) m) (mark_in t s w)
-        (onward (instructions k f.proc) f.place (i.Mark s) rest h.code)
+        (onward (instructions k f.proc) f.place h.code)
         (mark_stands t n num same s m w lt h.stands) refl)))
 
     step_clear : (s : ℕ) (rest ys : List Instr) (a : Block) → s < state_count t → Rest rest ys a
@@ -112,7 +113,7 @@ module _ (t : Tree) (n : ℕ → ℕ) (num : Numbers t n) (same : length t.comps
         (go (with_states (c_clear t n s m.states) m) l (clear_in t s w) r (next f)
         (moved t n k note saved (i.Clear s ∷ rest) rest m l w r f fs h (f.place + 1)
         (with_states (c_clear t n s m.states) m) (clear_in t s w)
-        (onward (instructions k f.proc) f.place (i.Clear s) rest h.code)
+        (onward (instructions k f.proc) f.place h.code)
         (clear_stands t n num same s m w lt h.stands) refl)))
 
     keep_runs : (s : ℕ) (o : Option ℕ) (a : Block) (m : CMemory) (l : Locals)
@@ -132,7 +133,7 @@ module _ (t : Tree) (n : ℕ → ℕ) (num : Numbers t n) (same : length t.comps
         (go (with_states (c_keep t n s m.states) m) l (keep_in t s w) r (next f)
         (moved t n k note saved (i.Keep s ∷ rest) rest m l w r f fs h (f.place + 1)
         (with_states (c_keep t n s m.states) m) (keep_in t s w)
-        (onward (instructions k f.proc) f.place (i.Keep s) rest h.code)
+        (onward (instructions k f.proc) f.place h.code)
         (keep_stands t n num same s m w o h.stands) refl)))
 
     step_home : (s : ℕ) (rest ys : List Instr) (a : Block) → Rest rest ys a
@@ -140,7 +141,7 @@ module _ (t : Tree) (n : ℕ → ℕ) (num : Numbers t n) (same : length t.comps
     unfolding straight exec
     step_home s rest ys a go m l w r f h =
         let at = moved t n k note saved (i.Home s ∷ rest) rest m l w r f fs h (f.place + 1) m w
-        (onward (instructions k f.proc) f.place (i.Home s) rest h.code) h.stands refl in
+        (onward (instructions k f.proc) f.place h.code) h.stands refl in
         does_on code n fuel now note saved fs _ _ ys (after a m (record l { home = s }))
         (go_home (fetched k f.proc f.place (i.Home s ∷ rest) h.code))
         (go m (record l { home = s }) w r (next (record f { home = s })) (record {
@@ -164,7 +165,7 @@ module _ (t : Tree) (n : ℕ → ℕ) (num : Numbers t n) (same : length t.comps
     unfolding straight exec
     step_begin rest ys a go m l w r f h =
         let at = moved t n k note saved (i.Begin ∷ rest) rest m l w r f fs h (f.place + 1) m w
-        (onward (instructions k f.proc) f.place i.Begin rest h.code) h.stands refl in
+        (onward (instructions k f.proc) f.place h.code) h.stands refl in
         let g = next (record f { base = length fs }) in
         does_on code n fuel now note saved fs _ _ ys (after a m (record l { base = length m.notes }))
         (go_begin (fetched k f.proc f.place (i.Begin ∷ rest) h.code))
@@ -195,7 +196,7 @@ module _ (t : Tree) (n : ℕ → ℕ) (num : Numbers t n) (same : length t.comps
         does_on code n fuel now note saved fs _ _ ys (after a m l)
         (go_pass_zero (fetched k f.proc f.place (i.Pass ∷ rest) h.code))
         (go m l w 0 (next f) (moved t n k note saved (i.Pass ∷ rest) rest m l w 0 f fs h (f.place + 1) m w
-        (onward (instructions k f.proc) f.place i.Pass rest h.code) h.stands refl))
+        (onward (instructions k f.proc) f.place h.code) h.stands refl))
     pass_by (suc x) rest ys a go m l w f h =
         subst (λ d. Does code n fuel now note saved fs (machine w now (suc x) (f ∷ fs)) ys
         (and_on (branch (Ok (not d)) m (Left m (suc x)) (Fell m l)) (after a)))
@@ -287,7 +288,7 @@ module _ (t : Tree) (n : ℕ → ℕ) (num : Numbers t n) (same : length t.comps
         (acts w r f (i.Assign v x) (fetched k f.proc f.place (i.Assign v x ∷ rest) h.code))
         (λ u v' st e. go u l v' r (next f)
         (moved t n k note saved (i.Assign v x ∷ rest) rest m l w r f fs h (f.place + 1) u v'
-        (onward (instructions k f.proc) f.place (i.Assign v x) rest h.code) st e))
+        (onward (instructions k f.proc) f.place h.code) st e))
 
     step_emit : (x : ℕ) (rest ys : List Instr) (a : Block) → Rest rest ys a
         → Rest (i.Emit x ∷ rest) ys (straight t n k.react (i.Emit x) a)
@@ -299,7 +300,7 @@ module _ (t : Tree) (n : ℕ → ℕ) (num : Numbers t n) (same : length t.comps
         (λ v st. go (record m { used = m.used + 1; outputs = m.outputs ++ x ∷ [] }) l (emitted x v) r (next f)
         (moved t n k note saved (i.Emit x ∷ rest) rest m l w r f fs h (f.place + 1)
         (record m { used = m.used + 1; outputs = m.outputs ++ x ∷ [] }) (emitted x v)
-        (onward (instructions k f.proc) f.place (i.Emit x) rest h.code)
+        (onward (instructions k f.proc) f.place h.code)
         (record {
           states = st.states;
           consistent = st.consistent;
@@ -451,7 +452,7 @@ module _ (t : Tree) (n : ℕ → ℕ) (num : Numbers t n) (same : length t.comps
         does_then code n less now note saved fs _ rest ys (after c.End v l) (after a)
         (low (machine u now r (next f ∷ fs)) rest (after c.End v l)
         (stops_at rest v l u r (next f) (moved t n k note saved (x ∷ rest) rest m l w r f fs h (f.place + 1) v u
-        (onward (instructions k f.proc) f.place x rest h.code) st same_as)))
+        (onward (instructions k f.proc) f.place h.code) st same_as)))
         (λ m l w r f h. low (machine w now r (f ∷ fs)) ys (after a m l) (go m l w r f h))
 
     step_send_to : (e s p : ℕ) (rest ys : List Instr) (a : Block) → Rest rest ys a
@@ -481,7 +482,7 @@ module _ (t : Tree) (n : ℕ → ℕ) (num : Numbers t n) (same : length t.comps
       result = r;
       frame = next f;
       at = moved t n k note saved (i.Play ∷ rest) rest m l w r f fs h (f.place + 1) m w
-          (onward (instructions k f.proc) f.place i.Play rest h.code) h.stands refl;
+          (onward (instructions k f.proc) f.place h.code) h.stands refl;
       reached = way;
     }
 
@@ -634,7 +635,7 @@ module _ (t : Tree) (n : ℕ → ℕ) (num : Numbers t n) (same : length t.comps
         (go_skip (fetched k f.proc f.place (i.Skip j ∷ rest) h.code))
         (go m l w r (past f j)
         (moved t n k note saved (i.Skip j ∷ rest) (drop j rest) m l w r f fs h (f.place + 1 + j) m w
-        (further (instructions k f.proc) f.place j (i.Skip j) rest h.code) h.stands refl))
+        (further (instructions k f.proc) f.place j h.code) h.stands refl))
 
     fork_by : (j : ℕ) (x : Cond) (rest mid : List Instr) (a d : Block) → Rest rest mid a → Rest (drop j rest) mid d
         → (m : CMemory) (l : Locals) (w : World) (r : ℕ) (f : Frame) → IsAt t n k note saved
@@ -645,13 +646,13 @@ module _ (t : Tree) (n : ℕ → ℕ) (num : Numbers t n) (same : length t.comps
         does_on code n fuel now note saved fs _ _ mid (after a m l)
         (go_unless_true (fetched k f.proc f.place (i.Unless j x ∷ rest) h.code) e)
         (one_way m l w r (next f) (moved t n k note saved (i.Unless j x ∷ rest) rest m l w r f fs h (f.place + 1) m w
-        (onward (instructions k f.proc) f.place (i.Unless j x) rest h.code) h.stands refl))
+        (onward (instructions k f.proc) f.place h.code) h.stands refl))
     fork_by j x rest mid a d one_way other_way m l w r f h (Ok false) e =
         does_on code n fuel now note saved fs _ _ mid (after d m l)
         (go_unless_false (fetched k f.proc f.place (i.Unless j x ∷ rest) h.code) e)
         (other_way m l w r (past f j)
         (moved t n k note saved (i.Unless j x ∷ rest) (drop j rest) m l w r f fs h (f.place + 1 + j) m w
-        (further (instructions k f.proc) f.place j (i.Unless j x) rest h.code) h.stands refl))
+        (further (instructions k f.proc) f.place j h.code) h.stands refl))
     fork_by j x rest mid a d one_way other_way m l w r f h (Err y) e = record {
       world = w;
       stands = h.stands;

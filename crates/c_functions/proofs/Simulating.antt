@@ -12,6 +12,7 @@ use Rattle.code_language.specs.Instrs as i
 use Rattle.code_language.specs.WellFormed.{Known, is_state, is_event, is_proc, note_known, instr_known}
 use Rattle.code_language.specs.WellFormed.{cond_known, instr_typed, instr_keeps}
 use Rattle.code_language.specs.WellFormed.{cond_keeps}
+use Rattle.code_language.proofs.AssignLemmas.{assign_typed, test_typed}
 use Rattle.c_subset.specs.Trees.{Block}
 use Rattle.c_subset.specs.declared.trees.Width.{Width}
 use Rattle.c_subset.specs.Meaning.{one_if, Store, Locals}
@@ -42,7 +43,7 @@ use Rattle.c_functions.proofs.Outputs.{exec-keeps}
 use Rattle.c_functions.proofs.Stepping.{HasCalls, if-ends, deep-ends, home-ends}
 use Rattle.c_functions.proofs.Stepping.{base-ends}
 use Rattle.c_functions.proofs.Calling.{more-room, noted-ends, send-ends, play-ends, home_on-ends, home_bare-ends}
-use Rattle.c_functions.proofs.Assigns.{assign_typed, test_typed, assign-ends, arithmetic-ends}
+use Rattle.c_functions.proofs.Assigns.{assign-ends, arithmetic-ends}
 
 -- what instructions may name, in a shape
 abbrev pub known_in : Shape → Known

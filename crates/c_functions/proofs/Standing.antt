@@ -20,13 +20,14 @@ use Rattle.code_language.specs.Instrs as i
 use Rattle.code_language.specs.Machine.{Frame, later, fresh, next}
 use Rattle.code_language.specs.Reach.{with_note, pending}
 use Rattle.code_language.proofs.Notes.{pending_at, pending_past}
+use Rattle.code_language.proofs.Tails.{onward}
 use Rattle.c_functions.specs.States.{Numbers, Shows, c_mark, c_clear, c_keep}
 use Rattle.c_functions.specs.Statements.{CMemory, Locals}
 use Rattle.c_functions.specs.Meaning.{with_states, begins}
 use Rattle.c_functions.specs.Written.{IsOrChild}
 use Rattle.c_functions.specs.Runs.{Stands, IsAt}
 use Rattle.c_functions.proofs.Changing.{mark_shows, clear_shows, keep_shows}
-use Rattle.c_functions.proofs.Following.{onward, same_pending, later_at}
+use Rattle.c_functions.proofs.Following.{same_pending, later_at}
 use Rattle.c_functions.proofs.Following.{later_zero, dropped, within_some, moved}
 
 module _ (t : Tree) (n : ℕ → ℕ) (num : Numbers t n) (same : length t.comps ≡ state_count t) where
@@ -131,7 +132,7 @@ module _ (t : Tree) (n : ℕ → ℕ) (k : Procedures) (note : Option ℕ) (save
       → IsAt t n k note saved rest v (record l { result = y }) u y (next f) fs
   resulted x rest m v l w u r y f h st e =
       let at = moved t n k note saved (x ∷ rest) rest m l w r f fs h (f.place + 1) v u
-      (onward (instructions k f.proc) f.place x rest h.code) st e in
+      (onward (instructions k f.proc) f.place h.code) st e in
       record {
         code = at.code;
         stands = at.stands;

@@ -15,6 +15,7 @@ use Rattle.code_language.specs.Sound.{AreSound}
 use Rattle.code_language.specs.WellFormed.{Known, known_of, IsCode, can_be_kept, instr_known, instr_keeps}
 use Rattle.code_language.specs.WellFormed.{skips_within}
 use Rattle.code_language.proofs.Sound.{code_parts, proc_at, instructions_at, or_none}
+use Rattle.code_language.proofs.Tails.{drop_none}
 use Rattle.c_functions.specs.Statements.{Block}
 use Rattle.c_functions.specs.Statements as c
 use Rattle.c_functions.specs.Written.{straight, IsOrChild, IsStraight, Written, Stops, Steps, Returns, Skips}
@@ -23,10 +24,6 @@ use Rattle.c_functions.specs.Writer.{jump_of, stays_within, skip_of, join_of, fo
 use Rattle.c_functions.specs.Writer.{plans_of}
 
 -- ---- lists without their first ones
-
-drop_none : (k : ℕ) → drop {A = Instr} k [] ≡ []
-drop_none zero = refl
-drop_none (suc k) = refl
 
 -- what is left after k and then the rest of m
 pub drop_rest : (k m : ℕ) (xs : List Instr) → k ≤ m → drop (m - k) (drop k xs) ≡ drop m xs

@@ -40,7 +40,7 @@ pub record IsTyped (n : Names) (v : ℕ) (e : Expr) : Type 0 where
   pub takes : assignment_fault decl.sort sort ≡ None
 
 -- an assignment of well-formed code has such a type
-assign_typed : (K : Known) (v : ℕ) (e : Expr) → instr_typed K (Assign v e) ≡ true → IsTyped K.names v e
+pub assign_typed : (K : Known) (v : ℕ) (e : Expr) → instr_typed K (Assign v e) ≡ true → IsTyped K.names v e
 unfolding instr_typed
 assign_typed K v e h =
     at (slice_get K.names.vars v) refl
@@ -69,7 +69,7 @@ assign_typed K v e h =
     at (Some decl) is h = given decl is (sort_of (scope_of K.names) e) refl h
 
 -- a test is a flag
-test_typed : (K : Known) (j : ℕ) (e : Expr) → instr_typed K (Unless j (Test e)) ≡ true
+pub test_typed : (K : Known) (j : ℕ) (e : Expr) → instr_typed K (Unless j (Test e)) ≡ true
     → sort_of (scope_of K.names) e ≡ Ok sorts.Flag
 unfolding instr_typed cond_typed
 test_typed K j e h =

@@ -24,8 +24,9 @@ use Rattle.code_shrink.specs.Follows.{renamed, Follows, HasCopy}
 use Rattle.code_shrink.specs.Shrunk.{KeepsResults}
 use Rattle.code_shrink.proofs.Endings.{copy_alike}
 use Rattle.code_copies.specs.SameRuns.{HasSameRuns}
-use Rattle.code_copies.proofs.MadeWhole.{too_long, all_within, neither, neither_holds, none_at, none_long, procs_by}
+use Rattle.code_copies.proofs.MadeWhole.{too_long, all_within, neither, neither_holds, none_at, none_long}
 use Rattle.code_shrink.specs.Numbers.{number_by}
+use Rattle.code_shrink.proofs.WholeCode.{procs_by}
 use Rattle.code_merging.specs.Merged.{under, AreEqual, merged_code}
 use Rattle.code_merging.proofs.MergedFollows.{is_there, merged_follows}
 use Rattle.code_merging.proofs.MergedMeasured.{under_height, under_work}

@@ -19,13 +19,14 @@ use Rattle.code_language.specs.declared.fault.CodeKind.TheVariants as kinds
 use Rattle.code_language.specs.declared.limits.TheConstants.{PROC_LIMIT, INSTR_LIMIT, HEIGHT_LIMIT, WORK_LIMIT}
 use Rattle.code_language.proofs.Accepted.{no_procs_fault, none_over, first_none, unless_none, holds_none}
 use Rattle.code_language.proofs.Sound.{code_parts, proc_at, or_none, instructions_at}
+use Rattle.code_language.proofs.Greatest.{at_most_greatest}
 use Rattle.code_shrink.specs.Follows.{NoteIn, NamesIn}
 use Rattle.code_shrink.specs.Neat.{IsAfter, Comes, First, After, Names}
 use Rattle.code_shrink.specs.Smaller.{count, one_if, straight, smaller}
 use Rattle.code_shrink.specs.Whole.{keep_if, is_live, number_in, collected, smaller_code, AreReached}
 use Rattle.code_shrink.specs.Whole.{LiveStart, LiveReaction, LiveNamed, AllReached, IsExact}
 use Rattle.code_shrink.proofs.Closed.{IsMarked, Lands, AreClosed, AllClosed, KeepsReached}
-use Rattle.code_shrink.proofs.Orders.{comes_from, heights_less, works_less, at_most_greatest}
+use Rattle.code_shrink.proofs.Orders.{comes_from, heights_less, works_less}
 use Rattle.code_shrink.proofs.Sounder.{smaller_proc, smaller_length}
 
 -- ---- flags that say what is reached are closed
@@ -139,7 +140,7 @@ exact_keeps live flags k h = record {
 -- ---- well formed
 
 -- procedures that are there one by one
-procs_by : (K : Known) (from : ℕ) (procs : List (List Instr))
+pub procs_by : (K : Known) (from : ℕ) (procs : List (List Instr))
     → ((i : ℕ) (is : List Instr) → slice_get procs i ≡ Some is → IsProc K (from + i) is) → AreProcs K from procs
 procs_by K from [] h = tt
 procs_by K from (is ∷ procs) h =

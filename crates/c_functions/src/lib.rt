@@ -22,6 +22,9 @@
 //! - `function_offsets`: the numbers of the functions after those of procedures.
 //! - `types`: the type of words and that of the field of a datum, which the crates above write and
 //!   print. It is the one code that runs.
+//!
+//! Lemmas in `proofs` have the name of the specification that they serve in front of their own, and
+//! `proofs/Lib.antt` lists them by these modules.
 #![tactic(auto)]
 
 mod expression_laws;

@@ -1,4 +1,4 @@
-use Rattle.c_functions.proofs.Ending.{called_outside}
+use Rattle.c_functions.proofs.RunsEnds.{called_outside}
 use Rattle.c_functions.proofs.plan_laws.calls_from_outside_end_as_code.Goals as goal
 
 pub returns : goal.returns

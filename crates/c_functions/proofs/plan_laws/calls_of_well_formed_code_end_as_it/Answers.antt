@@ -1,7 +1,7 @@
 use Rattle.std.proofs.Common.{suc}
 use Rattle.code_language.specs.Reactions.{first_frame}
-use Rattle.c_functions.proofs.Ending.{called_outside}
-use Rattle.c_functions.proofs.Lasting.{ends_as_code}
+use Rattle.c_functions.proofs.RunsEnds.{called_outside}
+use Rattle.c_functions.proofs.RunsLasting.{ends_as_code}
 use Rattle.c_functions.proofs.plan_laws.calls_of_well_formed_code_end_as_it.Goals as goal
 
 pub returns : goal.returns

@@ -1,4 +1,4 @@
-use Rattle.c_functions.proofs.Simulates.{calls_do}
+use Rattle.c_functions.proofs.RunsSimulation.{calls_do}
 use Rattle.c_functions.proofs.plan_laws.functions_do_what_procedures_do.Goals as goal
 
 pub returns : goal.returns

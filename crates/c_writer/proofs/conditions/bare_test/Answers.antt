@@ -1,6 +1,6 @@
 use Rattle.std.proofs.Common.{sym, ◌∙◌}
 use Rattle.std.proofs.lemmas.Result.{IfOk-weaker}
-use Rattle.c_functions.proofs.Checked.{bare_is_c}
+use Rattle.c_functions.proofs.PlansTests.{bare_is_c}
 use Rattle.c_shape.specs.FileShapes.{shape_seen}
 use Rattle.c_writer.proofs.conditions.bare_test.Goals as goal
 

@@ -8,7 +8,7 @@ ghost use Rattle.chart_code.specs.Places.{numbers};
 ghost use Rattle.chart_code.specs.Keys as keys;
 ghost use Rattle.chart_code.specs.Bodies.{body};
 ghost use Rattle.list_compile.specs.Drafts.{Stmts, code_seen, procs_of, test_of};
-ghost use Rattle.list_compile.specs.Numberings.{chart_in, IsNumbering};
+ghost use Rattle.list_compile.specs.Numberings.{chart_in};
 
 use crate::draft::{Draft, append, put, put_require, put_return};
 use crate::numbering::Numbering;
@@ -46,7 +46,6 @@ fn put_stmt(
     lasting: Lasting,
     stmt: &Stmt,
 ) -> Result<(), Memory>
-    requires { IsNumbering numbering.now }
     ensures { OnOk result ((rest : Stmts) →
         code_seen code.new
         ++ templates.block_code (numbers (chart_in numbering.now)) (test_of lasting) rest
@@ -82,7 +81,6 @@ pub fn append_block(
     lasting: Lasting,
     stmts: &[Stmt],
 ) -> Result<(), Memory>
-    requires { IsNumbering numbering.now }
     ensures { OnOk result (procs_of draft.new ≡ procs_of draft.old
         ++ templates.block_code (numbers (chart_in numbering.now)) (test_of lasting)
         (block_seen stmts.now) ∷ []) }
@@ -117,7 +115,6 @@ fn append_trans_parts(
     numbering: &Numbering<'_>,
     trans: &Trans,
 ) -> Result<(), Memory>
-    requires { IsNumbering numbering.now }
     ensures { OnOk result (procs_of draft.new ≡ procs_of draft.old
         ++ map (body (chart_in numbering.now)) (keys.trans_keys (trans_seen trans.now))) }
 {
@@ -142,7 +139,6 @@ pub fn append_parts(
     numbering: &Numbering<'_>,
     list: &[Trans],
 ) -> Result<(), Memory>
-    requires { IsNumbering numbering.now }
     ensures { OnOk result (procs_of draft.new ≡ procs_of draft.old
         ++ map (body (chart_in numbering.now)) (keys.parts_keys (list_seen list.now))) }
 {

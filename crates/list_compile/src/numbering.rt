@@ -1,14 +1,16 @@
 //! The numbers of the procedures of a chart.
 ghost use Rattle.std.specs.Prelude.{◌≡◌, ◌<◌, ◌≤◌, ◌+◌, ◌*◌, IfOk};
+ghost use Rattle.flow_base.specs.Lists.{items_of};
 ghost use Rattle.flow_base.specs.declared.chart_limits.TheConstants.{STATE_LIMIT, JUNCTION_LIMIT};
 ghost use Rattle.active_config.specs.Tree.{state_count};
 ghost use Rattle.checked_chart.specs.Chart.{junction_count};
 ghost use Rattle.checked_chart.specs.declared.parts.ListKind.TheVariants.{Outer, Default};
 ghost use Rattle.checked_chart.specs.Kept.{chart_of};
+ghost use Rattle.checked_chart.specs.Valid.{IsValid};
 ghost use Rattle.chart_code.specs.Ends as ends;
 ghost use Rattle.chart_code.specs.Places as places;
 ghost use Rattle.list_compile.specs.declared.number_limits.TheConstants as limits;
-ghost use Rattle.list_compile.specs.Numberings.{chart_in, IsNumbering};
+ghost use Rattle.list_compile.specs.NumberTables.{IsNumbering};
 
 use crate::counts::{below_counts, list_parts_size, reached_counts};
 use crate::number_offsets::{
@@ -40,46 +42,49 @@ pub struct Numbering<'a> {
     pub groups: List<u32>,
     /// How many procedures there are for the outer and inner lists of the states before each state.
     pub lists: List<u32>,
-}
-
-/// The numbering of a chart.
-pub fn number<'a>(alloc: Global, chart: &'a Chart) -> Result<Numbering<'a>, Memory>
-    ensures chart { IfOk result (λ n. chart_in n ≡ chart_of chart.now) }
-    ensures numbers { IfOk result (λ n. IsNumbering n) }
-{
-    let below = below_counts(alloc, chart.shape())?;
-    let outer = reached_counts(alloc, chart, ListKind::Outer)?;
-    let default = reached_counts(alloc, chart, ListKind::Default)?;
-    let parts = parts_before(alloc, chart)?;
-    let junction_parts = junction_parts_before(alloc, chart)?;
-    let groups = groups_before(alloc, chart, &below, &default)?;
-    let lists = lists_before(alloc, chart, &outer)?;
-    Ok(Numbering {
-        chart,
-        below,
-        outer,
-        default,
-        parts,
-        junction_parts,
-        groups,
-        lists,
-    })
+    pub ghost numbers: { IsNumbering (chart_of chart.now) (items_of below) (items_of outer)
+        (items_of default) (items_of parts) (items_of junction_parts) (items_of groups)
+        (items_of lists) },
 }
 
 impl<'a> Numbering<'a> {
+    ghost use Rattle.list_compile.specs.Numberings.{chart_in};
+
+    /// The numbering of a chart.
+    pub fn make(alloc: Global, chart: &'a Chart) -> Result<Numbering<'a>, Memory>
+        ensures chart { IfOk result (λ numbering. chart_in numbering ≡ chart_of chart.now) }
+    {
+        let below = below_counts(alloc, chart.shape())?;
+        let outer = reached_counts(alloc, chart, ListKind::Outer)?;
+        let default = reached_counts(alloc, chart, ListKind::Default)?;
+        let parts = parts_before(alloc, chart)?;
+        let junction_parts = junction_parts_before(alloc, chart)?;
+        let groups = groups_before(alloc, chart, &below, &default)?;
+        let lists = lists_before(alloc, chart, &outer)?;
+        Ok(Numbering {
+            chart,
+            below,
+            outer,
+            default,
+            parts,
+            junction_parts,
+            groups,
+            lists,
+        })
+    }
+
     /// How many states there are.
     pub fn states(&self) -> u32
-        requires numbers { IsNumbering self.now }
         ensures states { result ≡ state_count (chart_in self.now).tree }
         ensures few { result ≤ STATE_LIMIT }
+        ensures valid { IsValid (chart_in self.now) }
     {
         self.chart.shape().len()
     }
 
     /// How many states are strictly below a state.
     pub fn below(&self, state: u32) -> u32
-        requires numbers { IsNumbering self.now }
-        requires state { state < state_count (chart_in self.now).tree }
+        requires { state < state_count (chart_in self.now).tree }
         ensures below { result ≡ ends.below_count (chart_in self.now).tree state }
         ensures low { result ≤ STATE_LIMIT }
     {
@@ -88,8 +93,7 @@ impl<'a> Numbering<'a> {
 
     /// How many junctions the outer list of a state reaches.
     fn outer(&self, state: u32) -> u32
-        requires numbers { IsNumbering self.now }
-        requires state { state < state_count (chart_in self.now).tree }
+        requires { state < state_count (chart_in self.now).tree }
         ensures reached { result ≡ places.reached_count (chart_in self.now) state Outer }
         ensures low { result ≤ JUNCTION_LIMIT }
     {
@@ -98,8 +102,7 @@ impl<'a> Numbering<'a> {
 
     /// How many junctions the default list of a state reaches.
     fn default(&self, state: u32) -> u32
-        requires numbers { IsNumbering self.now }
-        requires state { state < state_count (chart_in self.now).tree }
+        requires { state < state_count (chart_in self.now).tree }
         ensures reached { result ≡ places.reached_count (chart_in self.now) state Default }
         ensures low { result ≤ JUNCTION_LIMIT }
     {
@@ -109,7 +112,6 @@ impl<'a> Numbering<'a> {
     /// The number of the first part of a transition of a state.
     #[tactic(auto, unfolding(chart_code::specs::Places::state_parts_start))]
     fn state_parts_start(&self) -> u32
-        requires numbers { IsNumbering self.now }
         ensures start { result ≡ places.state_parts_start (chart_in self.now) }
         ensures low { result ≤ limits.STATE_PARTS_START_LIMIT }
     {
@@ -118,7 +120,6 @@ impl<'a> Numbering<'a> {
 
     /// The number of the first part of a transition of a junction.
     fn junction_parts_start(&self) -> u32
-        requires numbers { IsNumbering self.now }
         ensures start { result ≡ places.junction_parts_start (chart_in self.now) }
         ensures low { result ≤ limits.JUNCTION_PARTS_START_LIMIT }
     {
@@ -127,7 +128,6 @@ impl<'a> Numbering<'a> {
 
     /// The number of the first procedure for firings.
     fn groups_start(&self) -> u32
-        requires numbers { IsNumbering self.now }
         ensures start { result ≡ places.groups_start (chart_in self.now) }
         ensures low { result ≤ limits.GROUPS_START_LIMIT }
     {
@@ -136,7 +136,6 @@ impl<'a> Numbering<'a> {
 
     /// The number of the first procedure of outer and inner lists.
     fn lists_start(&self) -> u32
-        requires numbers { IsNumbering self.now }
         ensures start { result ≡ places.lists_start (chart_in self.now) }
         ensures low { result ≤ limits.LISTS_START_LIMIT }
     {
@@ -145,7 +144,6 @@ impl<'a> Numbering<'a> {
 
     /// The number of the first procedure that processes a state.
     fn processes_start(&self) -> u32
-        requires numbers { IsNumbering self.now }
         ensures start { result ≡ places.processes_start (chart_in self.now) }
         ensures low { result ≤ limits.PROCESSES_START_LIMIT }
     {
@@ -154,8 +152,7 @@ impl<'a> Numbering<'a> {
 
     /// The number of the first procedure for firings in a state.
     pub fn group(&self, state: u32) -> u32
-        requires numbers { IsNumbering self.now }
-        requires state { state < state_count (chart_in self.now).tree }
+        requires { state < state_count (chart_in self.now).tree }
         ensures group { result ≡ places.group_at (chart_in self.now) state }
         ensures low { result ≤ limits.LISTS_START_LIMIT }
     {
@@ -165,8 +162,7 @@ impl<'a> Numbering<'a> {
 
     /// The number of the outer list of a state.
     fn lists(&self, state: u32) -> u32
-        requires numbers { IsNumbering self.now }
-        requires state { state < state_count (chart_in self.now).tree }
+        requires { state < state_count (chart_in self.now).tree }
         ensures lists { result ≡ places.lists_at (chart_in self.now) state }
         ensures low { result ≤ limits.PROCESSES_START_LIMIT }
     {
@@ -176,8 +172,7 @@ impl<'a> Numbering<'a> {
 
     /// The number of the first part of a transition of a list of a state.
     pub fn parts(&self, state: u32, kind: ListKind) -> u32
-        requires numbers { IsNumbering self.now }
-        requires state { state < state_count (chart_in self.now).tree }
+        requires { state < state_count (chart_in self.now).tree }
         ensures parts { result ≡ places.parts_at (chart_in self.now) state kind }
         ensures low { result ≤ limits.GROUPS_START_LIMIT }
     {
@@ -195,8 +190,7 @@ impl<'a> Numbering<'a> {
 
     /// The number of the first part of a transition of a junction.
     pub(crate) fn parts_of_junction(&self, junction: u32) -> u32
-        requires numbers { IsNumbering self.now }
-        requires junction { junction < junction_count (chart_in self.now) }
+        requires { junction < junction_count (chart_in self.now) }
         ensures parts { result ≡ places.junction_parts_at (chart_in self.now) junction }
         ensures low { result ≤ limits.GROUPS_START_LIMIT }
     {
@@ -205,8 +199,7 @@ impl<'a> Numbering<'a> {
 
     /// The number of the procedure of a list.
     pub fn list(&self, state: u32, kind: ListKind) -> u32
-        requires numbers { IsNumbering self.now }
-        requires state { state < state_count (chart_in self.now).tree }
+        requires { state < state_count (chart_in self.now).tree }
         ensures list { result ≡ places.list_at (chart_in self.now) state kind }
         ensures low { result ≤ limits.LIST_LIMIT }
     {
@@ -220,8 +213,7 @@ impl<'a> Numbering<'a> {
     /// The number of the procedure that enters a state by default.
     #[tactic(auto, unfolding(chart_code::specs::Places::numbers))]
     pub fn defaults(&self, state: u32) -> u32
-        requires numbers { IsNumbering self.now }
-        requires state { state < state_count (chart_in self.now).tree }
+        requires { state < state_count (chart_in self.now).tree }
         ensures { result ≡ (places.numbers (chart_in self.now)).defaults state }
     {
         self.group(state) + DEFAULTS_OFFSET + self.below(state) + self.default(state)
@@ -230,7 +222,6 @@ impl<'a> Numbering<'a> {
     /// The number of the procedure that arrives in a state on the way to another one.
     #[tactic(auto, unfolding(chart_code::specs::Places::numbers))]
     pub fn arrive(&self, state: u32, dest: u32) -> u32
-        requires numbers { IsNumbering self.now }
         requires state { state < state_count (chart_in self.now).tree }
         requires dest { dest < state_count (chart_in self.now).tree }
         ensures { result ≡ (places.numbers (chart_in self.now)).arrive state dest }
@@ -244,7 +235,6 @@ impl<'a> Numbering<'a> {
     /// The number of the procedure of a firing in a state to another one.
     #[tactic(auto, unfolding(chart_code::specs::Places::numbers))]
     pub fn take(&self, state: u32, dest: u32) -> u32
-        requires numbers { IsNumbering self.now }
         requires state { state < state_count (chart_in self.now).tree }
         requires dest { dest < state_count (chart_in self.now).tree }
         ensures { result ≡ (places.numbers (chart_in self.now)).take state dest }
@@ -259,7 +249,6 @@ impl<'a> Numbering<'a> {
     /// The number of the procedure that enters a state on the way to another one.
     #[tactic(auto, unfolding(chart_code::specs::Places::numbers))]
     pub fn enter(&self, state: u32, dest: u32) -> u32
-        requires numbers { IsNumbering self.now }
         requires state { state < state_count (chart_in self.now).tree }
         requires dest { dest < state_count (chart_in self.now).tree }
         ensures { result ≡ (places.numbers (chart_in self.now)).enter state dest }
@@ -274,7 +263,6 @@ impl<'a> Numbering<'a> {
     /// The number of the procedure that processes a state.
     #[tactic(auto, unfolding(chart_code::specs::Places::numbers))]
     pub fn process(&self, state: u32) -> u32
-        requires numbers { IsNumbering self.now }
         ensures { result ≡ (places.numbers (chart_in self.now)).process state }
     {
         self.processes_start() + self.states().saturating_sub(state).saturating_sub(1)

@@ -12,7 +12,7 @@ ghost use Rattle.chart_code.specs.Keys as keys;
 ghost use Rattle.chart_code.specs.Bodies.{body};
 ghost use Rattle.list_compile.specs.declared.number_limits.TheConstants as limits;
 ghost use Rattle.list_compile.specs.Drafts.{Instrs, IsFront, code_seen, procs_of, test_of};
-ghost use Rattle.list_compile.specs.Numberings.{chart_in, IsNumbering};
+ghost use Rattle.list_compile.specs.Numberings.{chart_in};
 ghost use Rattle.list_compile.specs.Searches.{IsSearch, search_seen, lasting_seen};
 
 use crate::blocks::{Lasting, test};
@@ -54,7 +54,6 @@ fn lasting(kind: ListKind) -> Lasting
 /// The number of the procedure of a firing of a list.
 #[tactic(auto, unfolding(chart_code::specs::Places::numbers))]
 fn fire(numbering: &Numbering<'_>, state: u32, kind: ListKind, dest: u32) -> u32
-    requires numbers { IsNumbering numbering.now }
     requires state { state < state_count (chart_in numbering.now).tree }
     requires dest { dest < state_count (chart_in numbering.now).tree }
     ensures { result ≡ (templates.context_of (places.numbers (chart_in numbering.now))
@@ -69,7 +68,6 @@ fn fire(numbering: &Numbering<'_>, state: u32, kind: ListKind, dest: u32) -> u32
 
 /// What a search of a list returns after a firing.
 fn fired(numbering: &Numbering<'_>, state: u32, kind: ListKind, dest: u32) -> u32
-    requires numbers { IsNumbering numbering.now }
     requires state { state < state_count (chart_in numbering.now).tree }
     requires dest { dest < state_count (chart_in numbering.now).tree }
     ensures { result ≡ templates.fired_result (chart_in numbering.now).tree state kind dest }
@@ -93,7 +91,6 @@ fn put_dest(
     note: Option<u32>,
     dest: Dest,
 ) -> Result<(), Memory>
-    requires numbers { IsNumbering numbering.now }
     requires search { IsSearch (chart_in numbering.now) search.now }
     requires dest { IsDest (chart_in numbering.now) dest }
     ensures { OnOk result (code_seen code.new ≡ code_seen code.old
@@ -188,7 +185,6 @@ fn put_trans(
     trans: &Trans,
     first: u32,
 ) -> Result<(), Memory>
-    requires numbers { IsNumbering numbering.now }
     requires search { IsSearch (chart_in numbering.now) search.now }
     requires dest { IsDest (chart_in numbering.now) trans.now.dest }
     requires low { first ≤ limits.PART_LIMIT }
@@ -217,7 +213,6 @@ fn put_list(
     list: &[Trans],
     first: u32,
 ) -> Result<(), Memory>
-    requires numbers { IsNumbering numbering.now }
     requires search { IsSearch (chart_in numbering.now) search.now }
     requires valid { AreTrans (chart_in numbering.now) (list_seen list.now) }
     requires low { first + places.parts_size (list_seen list.now) ≤ limits.PART_LIMIT }
@@ -264,7 +259,6 @@ fn put_junction(
     list: &[Trans],
     first: u32,
 ) -> Result<(), Memory>
-    requires numbers { IsNumbering numbering.now }
     requires search { IsSearch (chart_in numbering.now) search.now }
     requires valid { AreTrans (chart_in numbering.now) (list_seen list.now) }
     requires low { first + places.parts_size (list_seen list.now) ≤ limits.PART_LIMIT }
@@ -287,7 +281,6 @@ fn append_junction(
     search: &Search<'_>,
     junction: u32,
 ) -> Result<(), Memory>
-    requires numbers { IsNumbering numbering.now }
     requires search { IsSearch (chart_in numbering.now) search.now }
     requires junction { junction < junction_count (chart_in numbering.now) }
     ensures ok { OnOk result (procs_of draft.new ≡ procs_of draft.old
@@ -295,6 +288,8 @@ fn append_junction(
         (keys.JunctionOf search.now.state search.now.kind junction) ∷ []) }
     ensures err { OnErr result (procs_of draft.new ≡ procs_of draft.old) }
 {
+    // Only the proof reads the number of states: the chart is valid.
+    let _ = numbering.states();
     let list = numbering.chart.junction(junction);
     let first = numbering.parts_of_junction(junction);
     let mut code = List::of(Vec::new(alloc));
@@ -311,7 +306,6 @@ fn append_junctions(
     search: &Search<'_>,
     found: &[u32],
 ) -> Result<(), Memory>
-    requires numbers { IsNumbering numbering.now }
     requires search { IsSearch (chart_in numbering.now) search.now }
     requires within { AllByRecursion (λ j. j < junction_count (chart_in numbering.now)) found.now }
     ensures ok { OnOk result (procs_of draft.new ≡ procs_of draft.old
@@ -333,12 +327,13 @@ fn append_first(
     numbering: &Numbering<'_>,
     search: &Search<'_>,
 ) -> Result<(), Memory>
-    requires numbers { IsNumbering numbering.now }
-    requires search { IsSearch (chart_in numbering.now) search.now }
+    requires { IsSearch (chart_in numbering.now) search.now }
     ensures ok { OnOk result (procs_of draft.new ≡ procs_of draft.old
         ++ body (chart_in numbering.now) (keys.ListOf search.now.state search.now.kind) ∷ []) }
     ensures err { OnErr result (procs_of draft.new ≡ procs_of draft.old) }
 {
+    // Only the proof reads the number of states: the chart is valid.
+    let _ = numbering.states();
     let list = numbering.chart.list(search.state, search.kind);
     let first = numbering.parts(search.state, search.kind);
     let mut code = List::of(Vec::new(alloc));
@@ -357,13 +352,14 @@ pub fn append_list(
     state: u32,
     kind: ListKind,
 ) -> Result<(), Memory>
-    requires numbers { IsNumbering numbering.now }
-    requires state { state < state_count (chart_in numbering.now).tree }
+    requires { state < state_count (chart_in numbering.now).tree }
     ensures ok { OnOk result (procs_of draft.new ≡ procs_of draft.old
         ++ map (body (chart_in numbering.now))
         (keys.search_keys (chart_in numbering.now) state kind)) }
     ensures err { OnErr result (IsFront (procs_of draft.old) (procs_of draft.new)) }
 {
+    // Only the proof reads the number of states: the chart is valid.
+    let _ = numbering.states();
     let list = numbering.chart.list(state, kind);
     let junctions = reached(alloc, numbering.chart, list)?;
     let first = numbering.list(state, kind);

@@ -11,7 +11,7 @@ ghost use Rattle.chart_code.specs.Places.{numbers};
 ghost use Rattle.chart_code.specs.Keys as keys;
 ghost use Rattle.chart_code.specs.Bodies.{body};
 ghost use Rattle.list_compile.specs.Drafts.{Instrs, code_seen, procs_of};
-ghost use Rattle.list_compile.specs.Numberings.{chart_in, IsNumbering};
+ghost use Rattle.list_compile.specs.Numberings.{chart_in};
 
 use crate::children::children;
 use crate::firings::put_toward;
@@ -29,8 +29,7 @@ use std::alloc::Global;
 /// The number of the procedure of the entry action of a state.
 #[tactic(auto, unfolding(chart_code::specs::Places::numbers))]
 fn entry_action(numbering: &Numbering<'_>, state: u32) -> u32
-    requires numbers { IsNumbering numbering.now }
-    requires state { state < state_count (chart_in numbering.now).tree }
+    requires { state < state_count (chart_in numbering.now).tree }
     ensures { result ≡ (numbers (chart_in numbering.now)).entry state }
 {
     // Only the proof reads the number of states: it is small.
@@ -41,8 +40,7 @@ fn entry_action(numbering: &Numbering<'_>, state: u32) -> u32
 /// The number of the procedure of the default list of a state.
 #[tactic(auto, unfolding(chart_code::specs::Places::numbers))]
 fn default_list(numbering: &Numbering<'_>, state: u32) -> u32
-    requires numbers { IsNumbering numbering.now }
-    requires state { state < state_count (chart_in numbering.now).tree }
+    requires { state < state_count (chart_in numbering.now).tree }
     ensures { result ≡ (numbers (chart_in numbering.now)).search state Default }
 {
     numbering.list(state, ListKind::Default)
@@ -51,8 +49,7 @@ fn default_list(numbering: &Numbering<'_>, state: u32) -> u32
 /// The children that a state may enter again by history.
 #[tactic(auto, unfolding(checked_chart::specs::Chart::may_return))]
 fn may_return(alloc: Global, numbering: &Numbering<'_>, state: u32) -> Result<List<u32>, Memory>
-    requires numbers { IsNumbering numbering.now }
-    requires state { state < state_count (chart_in numbering.now).tree }
+    requires { state < state_count (chart_in numbering.now).tree }
     ensures returns { IfOk result (λ list.
         items_of list ≡ charts.may_return (chart_in numbering.now) state) }
     ensures within { IfOk result (λ list.
@@ -72,8 +69,7 @@ fn put_parent_test(
     numbering: &Numbering<'_>,
     state: u32,
 ) -> Result<(), Memory>
-    requires numbers { IsNumbering numbering.now }
-    requires state { state < state_count (chart_in numbering.now).tree }
+    requires { state < state_count (chart_in numbering.now).tree }
     ensures { OnOk result ((rest : Instrs) → code_seen code.new ++ rest ≡ code_seen code.old
         ++ templates.parent_test (chart_in numbering.now).tree
         (trees.parent_of (chart_in numbering.now).tree state) rest) }
@@ -89,8 +85,7 @@ fn put_parent_test(
 
 /// Appends that the parent of a state remembers it, where the parent has history.
 fn put_keep(code: &mut List<Instr>, numbering: &Numbering<'_>, state: u32) -> Result<(), Memory>
-    requires numbers { IsNumbering numbering.now }
-    requires state { state < state_count (chart_in numbering.now).tree }
+    requires { state < state_count (chart_in numbering.now).tree }
     ensures { OnOk result ((rest : Instrs) → code_seen code.new ++ rest ≡ code_seen code.old
         ++ templates.keep_code (charts.is_remembered (chart_in numbering.now) state) state rest) }
 {
@@ -107,7 +102,6 @@ fn put_enters(
     dest: u32,
     children: &[u32],
 ) -> Result<(), Memory>
-    requires numbers { IsNumbering numbering.now }
     requires dest { dest < state_count (chart_in numbering.now).tree }
     requires within { AllByRecursion (λ x. x < state_count (chart_in numbering.now).tree)
         children.now }
@@ -130,7 +124,6 @@ fn put_inside(
     state: u32,
     dest: u32,
 ) -> Result<(), Memory>
-    requires numbers { IsNumbering numbering.now }
     requires state { state < state_count (chart_in numbering.now).tree }
     requires dest { dest < state_count (chart_in numbering.now).tree }
     ensures { OnOk result (code_seen code.new ≡ code_seen code.old
@@ -155,7 +148,6 @@ fn put_active(
     state: u32,
     dest: u32,
 ) -> Result<(), Memory>
-    requires numbers { IsNumbering numbering.now }
     requires state { state < state_count (chart_in numbering.now).tree }
     requires dest { dest < state_count (chart_in numbering.now).tree }
     ensures { OnOk result (code_seen code.new ≡ code_seen code.old
@@ -175,7 +167,6 @@ fn put_entry(
     state: u32,
     dest: u32,
 ) -> Result<(), Memory>
-    requires numbers { IsNumbering numbering.now }
     requires state { state < state_count (chart_in numbering.now).tree }
     requires dest { dest < state_count (chart_in numbering.now).tree }
     ensures { OnOk result (code_seen code.new ≡ code_seen code.old
@@ -195,7 +186,6 @@ pub(crate) fn append_enter(
     state: u32,
     dest: u32,
 ) -> Result<(), Memory>
-    requires numbers { IsNumbering numbering.now }
     requires state { state < state_count (chart_in numbering.now).tree }
     requires dest { dest < state_count (chart_in numbering.now).tree }
     ensures { OnOk result (procs_of draft.new ≡ procs_of draft.old
@@ -217,8 +207,7 @@ fn put_return_to(
     numbering: &Numbering<'_>,
     children: &[u32],
 ) -> Result<(), Memory>
-    requires numbers { IsNumbering numbering.now }
-    requires within { AllByRecursion (λ x. x < state_count (chart_in numbering.now).tree)
+    requires { AllByRecursion (λ x. x < state_count (chart_in numbering.now).tree)
         children.now }
     ensures { OnOk result ((rest : Instrs) → code_seen code.new ++ rest ≡ code_seen code.old
         ++ templates.return_code (numbers (chart_in numbering.now)) children.now rest) }
@@ -233,8 +222,7 @@ fn put_return_to(
 
 /// Appends that the default list of a state is searched.
 fn put_search(code: &mut List<Instr>, numbering: &Numbering<'_>, state: u32) -> Result<(), Memory>
-    requires numbers { IsNumbering numbering.now }
-    requires state { state < state_count (chart_in numbering.now).tree }
+    requires { state < state_count (chart_in numbering.now).tree }
     ensures { OnOk result (code_seen code.new ≡ code_seen code.old
         ++ templates.search_code (numbers (chart_in numbering.now)) state) }
 {
@@ -249,8 +237,7 @@ pub(crate) fn append_defaults(
     numbering: &Numbering<'_>,
     state: u32,
 ) -> Result<(), Memory>
-    requires numbers { IsNumbering numbering.now }
-    requires state { state < state_count (chart_in numbering.now).tree }
+    requires { state < state_count (chart_in numbering.now).tree }
     ensures { OnOk result (procs_of draft.new ≡ procs_of draft.old
         ++ body (chart_in numbering.now) (keys.Defaults state) ∷ []) }
 {

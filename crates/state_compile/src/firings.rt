@@ -5,7 +5,7 @@ ghost use Rattle.checked_chart.specs.Homes as homes;
 ghost use Rattle.chart_code.specs.StateProcedures as templates;
 ghost use Rattle.chart_code.specs.Places.{numbers};
 ghost use Rattle.list_compile.specs.Drafts.{code_seen, procs_of};
-ghost use Rattle.list_compile.specs.Numberings.{chart_in, IsNumbering};
+ghost use Rattle.list_compile.specs.Numberings.{chart_in};
 
 use code_language::{Cond, Instr};
 use list_compile::results::DONE;
@@ -21,7 +21,6 @@ pub(crate) fn put_toward(
     state: u32,
     dest: u32,
 ) -> Result<(), Memory>
-    requires numbers { IsNumbering numbering.now }
     requires state { state < state_count (chart_in numbering.now).tree }
     requires dest { dest < state_count (chart_in numbering.now).tree }
     ensures { OnOk result (code_seen code.new ≡ code_seen code.old
@@ -49,7 +48,6 @@ pub(crate) fn append_arrive(
     state: u32,
     dest: u32,
 ) -> Result<(), Memory>
-    requires numbers { IsNumbering numbering.now }
     requires state { state < state_count (chart_in numbering.now).tree }
     requires dest { dest < state_count (chart_in numbering.now).tree }
     ensures { OnOk result (procs_of draft.new ≡ procs_of draft.old
@@ -73,7 +71,6 @@ pub(crate) fn append_take(
     state: u32,
     dest: u32,
 ) -> Result<(), Memory>
-    requires numbers { IsNumbering numbering.now }
     requires state { state < state_count (chart_in numbering.now).tree }
     requires dest { dest < state_count (chart_in numbering.now).tree }
     ensures { OnOk result (procs_of draft.new ≡ procs_of draft.old

@@ -10,6 +10,6 @@ put_list-requires-clause-low c =
       arith,
       c.parts-first.ensures.low,
       ap parts_size c.list-list.ensures.list,
-      list_parts_low (chart_in c.args.numbering.now) c.requires.numbers.valid c.args.search.now.state
+      list_parts_low (chart_in c.args.numbering.now) c.states.ensures.valid c.args.search.now.state
           c.args.search.now.kind,
     )

@@ -10,5 +10,5 @@ put_junction-requires-clause-low c =
       arith,
       c.parts_of_junction-first.ensures.low,
       ap parts_size c.junction-list.ensures.list,
-      junction_parts_low (chart_in c.args.numbering.now) c.requires.numbers.valid c.args.junction,
+      junction_parts_low (chart_in c.args.numbering.now) c.states.ensures.valid c.args.junction,
     )

@@ -22,21 +22,21 @@ search_done c s kind old one new found e first rest =
     ∙ append_assoc old (body c (ListOf s kind) ∷ []) (map (body c) (map (λ j. JunctionOf s kind j) found))
     ∙ ap (λ xs. old ++ (body c (ListOf s kind) ∷ map (body c) (map (λ j. JunctionOf s kind j) xs))) e
 
-pub append_first-requires-clause-search : goal.append_first-requires-clause-search
+pub append_first-requires : goal.append_first-requires
 unfolding reached_count
-append_first-requires-clause-search c =
+append_first-requires c =
     let chart = chart_in c.args.numbering.now in
     let found =
     c.items-found.ensures ∙ c.in_ok-junctions.ensures.reached ∙ ap (reached chart) c.list-list.ensures.list in
     record {
-      state = c.requires.state;
+      state = c.requires;
       first = c.list-first.ensures.list;
       found = found;
       few =
           omega (
             arith,
             ap (λ xs. length xs) found,
-            reached_count_low chart c.requires.numbers.valid c.args.state c.args.kind,
+            reached_count_low chart c.states.ensures.valid c.args.state c.args.kind,
           );
       low = omega (arith, c.list-first.ensures.low);
     }
@@ -48,14 +48,14 @@ append_junctions-requires-clause-search c =
     let found =
     c.items-found.ensures ∙ c.in_ok-junctions.ensures.reached ∙ ap (reached chart) c.list-list.ensures.list in
     record {
-      state = c.requires.state;
+      state = c.requires;
       first = c.list-first.ensures.list;
       found = found;
       few =
           omega (
             arith,
             ap (λ xs. length xs) found,
-            reached_count_low chart c.requires.numbers.valid c.args.state c.args.kind,
+            reached_count_low chart c.states.ensures.valid c.args.state c.args.kind,
           );
       low = omega (arith, c.list-first.ensures.low);
     }

@@ -15,7 +15,7 @@ returns c =
     let b = body chart in
     let s = c.args.state in
     let n = suc (below_count chart.tree s) in
-    let after = end_after chart.tree c.requires.numbers.valid.tree s c.requires.state in
+    let after = end_after chart.tree c.states.ensures.valid.tree s c.requires in
     let before = procs_of c.args.draft.now in
     let taken = procs_of c.append_pairs.new.draft in
     both b (span (Take s) s n) (span (Enter s) s n) before taken _

@@ -2,16 +2,16 @@ use Rattle.std.proofs.Common.{◌∙◌, arith}
 use Rattle.list_compile.proofs.numbering.Numbering.below.Goals as goal
 
 pub entry-requires : goal.entry-requires
-entry-requires c = omega (arith, c.requires.numbers.below.long, c.requires.state)
+entry-requires c = omega (arith, c.args.self.now.numbers.below.long, c.requires)
 
 pub returns : goal.returns
 returns c = record {
-  below = c.entry.ensures ∙ c.requires.numbers.below.each c.args.state c.requires.state;
+  below = c.entry.ensures ∙ c.args.self.now.numbers.below.each c.args.state c.requires;
   low =
       omega (
         arith,
         c.entry.ensures,
-        c.requires.numbers.below.each c.args.state c.requires.state,
-        c.requires.numbers.below.low c.args.state c.requires.state,
+        c.args.self.now.numbers.below.each c.args.state c.requires,
+        c.args.self.now.numbers.below.low c.args.state c.requires,
       );
 }

@@ -8,7 +8,7 @@ pub returns-clause-group : goal.returns-clause-group
 unfolding group_at sum_between
 returns-clause-group c =
     let f = group_size (chart_in c.args.self.now) in
-    let table = c.requires.numbers.groups in
+    let table = c.args.self.now.numbers.groups in
     let next : c.args.state + 1 ≡ suc c.args.state = omega arith in
     omega (
       arith,
@@ -18,6 +18,6 @@ returns-clause-group c =
       c.saturating_sub.ensures,
       table.each c.states.result (omega (arith, c.states.ensures.states)),
       ap (sum_to f) c.states.ensures.states,
-      table.each (c.args.state + 1) (omega (arith, c.requires.state)),
+      table.each (c.args.state + 1) (omega (arith, c.requires)),
       ap (sum_to f) next,
     )

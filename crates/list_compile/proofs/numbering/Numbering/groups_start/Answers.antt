@@ -11,6 +11,6 @@ returns-clause-start c =
       arith,
       c.junction_parts_start.ensures.start,
       c.entry.ensures,
-      c.requires.numbers.junction_parts.each c.junctions.result (omega (arith, c.junctions.ensures)),
+      c.args.self.now.numbers.junction_parts.each c.junctions.result (omega (arith, c.junctions.ensures)),
       ap (sum_to (junction_parts_size (chart_in c.args.self.now))) c.junctions.ensures,
     )

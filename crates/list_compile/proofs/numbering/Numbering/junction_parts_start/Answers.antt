@@ -11,6 +11,6 @@ returns-clause-start c =
       arith,
       c.state_parts_start.ensures.start,
       c.entry.ensures,
-      c.requires.numbers.parts.each c.states.result (omega (arith, c.states.ensures.states)),
+      c.args.self.now.numbers.parts.each c.states.result (omega (arith, c.states.ensures.states)),
       ap (sum_to (state_parts_size (chart_in c.args.self.now))) c.states.ensures.states,
     )

@@ -8,7 +8,7 @@ pub returns-clause-lists : goal.returns-clause-lists
 unfolding lists_at sum_between
 returns-clause-lists c =
     let f = lists_size (chart_in c.args.self.now) in
-    let table = c.requires.numbers.lists in
+    let table = c.args.self.now.numbers.lists in
     let next : c.args.state + 1 ≡ suc c.args.state = omega arith in
     omega (
       arith,
@@ -18,6 +18,6 @@ returns-clause-lists c =
       c.saturating_sub.ensures,
       table.each c.states.result (omega (arith, c.states.ensures.states)),
       ap (sum_to f) c.states.ensures.states,
-      table.each (c.args.state + 1) (omega (arith, c.requires.state)),
+      table.each (c.args.state + 1) (omega (arith, c.requires)),
       ap (sum_to f) next,
     )

@@ -11,6 +11,6 @@ returns-clause-start c =
       arith,
       c.groups_start.ensures.start,
       c.entry.ensures,
-      c.requires.numbers.groups.each c.states.result (omega (arith, c.states.ensures.states)),
+      c.args.self.now.numbers.groups.each c.states.result (omega (arith, c.states.ensures.states)),
       ap (sum_to (group_size (chart_in c.args.self.now))) c.states.ensures.states,
     )

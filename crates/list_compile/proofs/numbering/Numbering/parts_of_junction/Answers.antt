@@ -9,5 +9,5 @@ returns-clause-parts c =
       arith,
       c.junction_parts_start.ensures.start,
       c.entry.ensures,
-      c.requires.numbers.junction_parts.each c.args.junction (omega (arith, c.requires.junction)),
+      c.args.self.now.numbers.junction_parts.each c.args.junction (omega (arith, c.requires)),
     )

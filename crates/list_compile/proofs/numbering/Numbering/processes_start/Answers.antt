@@ -11,6 +11,6 @@ returns-clause-start c =
       arith,
       c.lists_start.ensures.start,
       c.entry.ensures,
-      c.requires.numbers.lists.each c.states.result (omega (arith, c.states.ensures.states)),
+      c.args.self.now.numbers.lists.each c.states.result (omega (arith, c.states.ensures.states)),
       ap (sum_to (lists_size (chart_in c.args.self.now))) c.states.ensures.states,
     )

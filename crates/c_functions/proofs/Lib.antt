@@ -16,7 +16,6 @@ pub mod StoringKept
 pub mod StoringAssignments
 pub mod CodeStatements
 pub mod AssigningLemmas
-
 -- ---- plans
 
 pub mod StatesTests
@@ -32,7 +31,6 @@ pub mod RunsBegun
 pub mod RunsArithmetic
 pub mod RunsStays
 pub mod RunsLasting
-
 -- ---- functions of a file
 
 pub mod LayoutTests

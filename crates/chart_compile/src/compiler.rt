@@ -10,8 +10,8 @@ use crate::tables::states;
 use actions::copy_names;
 use checked_chart::Chart;
 use code_language::{Code, CodeEnd, RawCode, accept};
-use list_compile::Numbering;
 use flow_base::Memory;
+use list_compile::Numbering;
 use state_compile::procedures;
 use std::alloc::Global;
 

@@ -18,12 +18,10 @@ use crate::firings::put_toward;
 use active_config::Comp;
 use checked_chart::ListKind;
 use code_language::{Cond, Instr};
+use flow_base::{List, Memory};
 use list_compile::number_offsets::{ACTION_COUNT, ENTRY_START};
 use list_compile::results::DONE;
-use list_compile::{
-    Draft, Numbering, append, put, put_call, put_refuse, put_require, put_return,
-};
-use flow_base::{List, Memory};
+use list_compile::{Draft, Numbering, append, put, put_call, put_refuse, put_require, put_return};
 use std::alloc::Global;
 
 /// The number of the procedure of the entry action of a state.

@@ -13,10 +13,10 @@ ghost use Rattle.list_compile.specs.Numberings.{chart_in};
 use crate::children::children;
 use active_config::Comp;
 use code_language::{Cond, Instr};
+use flow_base::{List, Memory};
 use list_compile::number_offsets::{ACTION_COUNT, EXIT_ACTION_START, EXIT_OFFSET};
 use list_compile::results::DONE;
 use list_compile::{Draft, Numbering, append, put, put_call, put_require, put_return};
-use flow_base::{List, Memory};
 use std::alloc::Global;
 
 /// The number of the procedure of the exit action of a state.

@@ -8,9 +8,9 @@ ghost use Rattle.list_compile.specs.Drafts.{code_seen, procs_of};
 ghost use Rattle.list_compile.specs.Numberings.{chart_in};
 
 use code_language::{Cond, Instr};
+use flow_base::{List, Memory};
 use list_compile::results::DONE;
 use list_compile::{Draft, Numbering, append, put, put_call, put_require, put_return};
-use flow_base::{List, Memory};
 use std::alloc::Global;
 
 /// Appends how a state is entered on the way to another one: by default where the way ends at it,

@@ -14,8 +14,8 @@ use crate::exits::{append_exit, append_leave};
 use crate::firings::append_arrive;
 use crate::pairs::{PairKey, append_pairs};
 use checked_chart::ListKind;
-use list_compile::{Draft, Numbering, append_list};
 use flow_base::Memory;
+use list_compile::{Draft, Numbering, append_list};
 use std::alloc::Global;
 
 /// Appends how a state is left, and the rest of a firing with this home to each state below it.

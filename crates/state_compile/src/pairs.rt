@@ -11,8 +11,8 @@ ghost use Rattle.state_compile.specs.Keyed.{pair_key};
 
 use crate::entries::append_enter;
 use crate::firings::{append_arrive, append_take};
-use list_compile::{Draft, Numbering};
 use flow_base::Memory;
+use list_compile::{Draft, Numbering};
 use std::alloc::Global;
 
 /// What a procedure of a state for another state does.

@@ -15,12 +15,12 @@ use crate::children::children;
 use active_config::Comp;
 use checked_chart::ListKind;
 use code_language::{Cond, Instr};
+use flow_base::{List, Memory};
 use list_compile::number_offsets::{ACTION_COUNT, DURING_START};
 use list_compile::results::{DONE, FIRST_HOME};
 use list_compile::{
     Draft, Numbering, append, put, put_call, put_require, put_return, put_unless_found,
 };
-use flow_base::{List, Memory};
 use std::alloc::Global;
 
 /// The number of the procedure of the during action of a state.

@@ -11,8 +11,8 @@ ghost use Rattle.state_compile.specs.Keyed.{keys_of};
 use crate::groups::append_group;
 use crate::processes::append_process;
 use checked_chart::{BlockKind, ListKind};
-use list_compile::{Draft, Lasting, Numbering, append_block, append_list, append_parts};
 use flow_base::Memory;
+use list_compile::{Draft, Lasting, Numbering, append_block, append_list, append_parts};
 use std::alloc::Global;
 
 /// The procedures that are appended together for one state.

@@ -10,9 +10,9 @@ ghost use Rattle.list_compile.specs.Numberings.{chart_in};
 
 use crate::regions::{StateKeys, append_ascending, append_descending, append_junction_parts};
 use code_language::Instr;
+use flow_base::{List, Memory};
 use list_compile::results::EMPTY_JUNCTION;
 use list_compile::{Draft, Numbering, append, put_return};
-use flow_base::{List, Memory};
 use std::alloc::Global;
 
 /// Appends the procedure to which a search of an outer or inner list goes at an empty junction.

@@ -97,4 +97,3 @@ pub acts_at : (C : Program) (w : World) (now : Now) (r : ℕ) (f : Frame) (fs : 
     → drop f.place (instructions C.procedures f.proc) ≡ xs
     → step C (machine w now r (f ∷ fs)) ≡ act C (head_of xs) w now r f fs
 acts_at C w now r f fs {xs = xs} e = ap (λ o. act C o w now r f fs) (stands C.procedures f.proc f.place xs e)
-

@@ -4,6 +4,7 @@ use Rattle.std.proofs.Common.{true, false, cond, not, ◌&&◌, is_some, refl, s
 use Rattle.std.specs.Prelude.{bytes_eq, if◌then◌else◌}
 use Rattle.std.specs.List.{AllByRecursion, find, filter, range_with_len}
 use Rattle.std.proofs.lemmas.Slice.Eq.{bytes_eq-Decides}
+use Rattle.std.proofs.lemmas.Bool.{false_from_ne_true}
 use Rattle.flow_base.specs.Names.{after, index_of, are_distinct}
 use Rattle.chart_tree.specs.declared.name.NameText.{NameText}
 use Rattle.chart_places.specs.Scopes.{number_from}
@@ -17,15 +18,10 @@ abbrev pub Distinct : List (List ℕ) → Type 0
 Distinct [] = Unit {0}
 Distinct (name ∷ names) = IsNone name names × Distinct names
 
--- a test that isn't true is false
-not_true : (b : Bool) → (b ≡ true → ⊥) → b ≡ false
-not_true true h = absurd (h refl)
-not_true false h = refl
-
 index_none : (name : List ℕ) (names : List (List ℕ)) → IsNone name names → index_of name names ≡ None
 index_none name [] h = refl
 index_none name (other ∷ names) h =
-    let differ = not_true (bytes_eq other name) (λ e. h.0 (sym ((bytes_eq-Decides other name).0 e))) in
+    let differ = false_from_ne_true (bytes_eq other name) (λ e. h.0 (sym ((bytes_eq-Decides other name).0 e))) in
     ap (λ b. if b then Some 0 else after (index_of name names)) differ ∙ ap after (index_none name names h.1)
 
 -- such names are distinct

@@ -2,7 +2,7 @@
 use Rattle.std.proofs.Common.{◌≡◌, ◌≢◌, ℕ, zero, suc, ◌+◌, ◌≤◌, ◌<◌, List, ◌∷◌, length, Option, Some, None, Bool}
 use Rattle.std.proofs.Common.{true, false, cond, not, ◌&&◌, ◌||◌, refl, sym, ap, ◌∙◌, subst, ⊎_elim, arith, get_or}
 use Rattle.std.proofs.Common.{get_or-set_other, get_or-set_same, length-set, inl, inr}
-use Rattle.std.proofs.lemmas.Bool.{cases_lt}
+use Rattle.std.proofs.lemmas.Bool.{cases_lt, and_parts, or_parts, not-true}
 use Rattle.std.proofs.Math.ListN.{get_or-eq_default}
 use Rattle.std.proofs.lemmas.List.{length-replicate, get_or-replicate}
 use Rattle.std.specs.Prelude.{◌⊎◌, replicate, IfSome}
@@ -17,31 +17,16 @@ use Rattle.active_config.proofs.ParentLemmas.{child_within}
 use Rattle.active_config.proofs.ChildLemmas.{child_of_parent}
 use Rattle.active_config.proofs.TableLemmas.{same_or_other}
 
--- both tests of a conjunction that holds hold
-both_true : (a b : Bool) → (a && b) ≡ true → (a ≡ true) × (b ≡ true)
-both_true true b e = (refl, e)
-both_true false b e = absurd cc
-
--- neither test of a disjunction that fails holds
-both_false : (a b : Bool) → (a || b) ≡ false → (a ≡ false) × (b ≡ false)
-both_false true b e = absurd cc
-both_false false b e = (refl, e)
-
--- a test whose negation holds is false
-is_false : (b : Bool) → not b ≡ true → b ≡ false
-is_false true e = absurd cc
-is_false false e = refl
-
 -- where none of the kept ones passes, none of the others does
 any_kept : (p : ℕ → Bool) (x : ℕ) (ys : List ℕ) (b : Bool) → list_any p (cond b (x ∷ ys) ys) ≡ false
     → list_any p ys ≡ false
-any_kept p x ys true e = (both_false (p x) (list_any p ys) e).1
+any_kept p x ys true e = (or_parts (p x) (list_any p ys) e).1
 any_kept p x ys false e = e
 
 -- nor does the first, where it is kept
 any_head : (p : ℕ → Bool) (x : ℕ) (ys : List ℕ) (b : Bool) → b ≡ true → list_any p (cond b (x ∷ ys) ys) ≡ false
     → p x ≡ false
-any_head p x ys true h e = (both_false (p x) (list_any p ys) e).0
+any_head p x ys true h e = (or_parts (p x) (list_any p ys) e).0
 any_head p x ys false h e = absurd cc
 
 -- where none of the numbers that pass q passes p, a number that passes q doesn't
@@ -61,7 +46,7 @@ none_in_range p q a (suc n) x le lt h e = at (same_or_other a x) (none_in_range 
 -- a bare state is active
 pub bare_is_on : (t : Tree) (s : ℕ) (m : Configuration) → is_bare t s m ≡ true → is_on s m ≡ true
 unfolding is_bare
-bare_is_on t s m e = (both_true (is_on s m) _ e).0
+bare_is_on t s m e = (and_parts (is_on s m) _ e).0
 
 -- no child of a bare state is active
 pub bare_child_off : (t : Tree) (s x : ℕ) (m : Configuration) → is_bare t s m ≡ true → parent_of t x ≡ Some s
@@ -69,7 +54,7 @@ pub bare_child_off : (t : Tree) (s x : ℕ) (m : Configuration) → is_bare t s 
 unfolding is_bare children_of children_below
 bare_child_off t s x m e up lt =
     none_in_range (λ x. is_on x m) (is_child t s) 0 (state_count t) x (omega arith) (omega arith) (child_of_parent t s x up)
-    (is_false _ (both_true (is_on s m) _ e).1)
+    (not-true _ (and_parts (is_on s m) _ e).1)
 
 -- a state that was marked or cleared
 pub is_on-with_mark_same : (s : ℕ) (b : Bool) (m : Configuration) → s < mark_count m → is_on s (with_mark s b m) ≡ b
@@ -180,13 +165,13 @@ takes_bare t p And m e h = absurd cc
 -- a state that can be marked is not active
 pub can_mark_off : (t : Tree) (s : ℕ) (m : Configuration) → can_mark t s m ≡ true → is_on s m ≡ false
 unfolding can_mark
-can_mark_off t s m e = is_false _ (both_true (not (is_on s m)) _ e).0
+can_mark_off t s m e = not-true _ (and_parts (not (is_on s m)) _ e).0
 
 -- and its parent takes it
 pub can_mark_parent : (t : Tree) (s p : ℕ) (m : Configuration) → can_mark t s m ≡ true → parent_of t s ≡ Some p
     → takes_child t p (comp_of t p) m ≡ true
 unfolding can_mark
-can_mark_parent t s p m e up = sym (ap (λ o. parent_takes_child t o m) up) ∙ (both_true (not (is_on s m)) _ e).1
+can_mark_parent t s p m e up = sym (ap (λ o. parent_takes_child t o m) up) ∙ (and_parts (not (is_on s m)) _ e).1
 
 module _ (t : Tree) (m : Configuration) (k : IsConsistent t m) where
   -- what is active is a state

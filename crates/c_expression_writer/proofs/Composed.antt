@@ -2,6 +2,7 @@
 use Rattle.std.proofs.Common.{◌≡◌, ◌≢◌, ℕ, ◌+◌, ◌==◌, Bool, true, false, not, List}
 use Rattle.std.proofs.Common.{[], ◌∷◌, ◌++◌, refl, sym, ap, ◌∙◌, append_assoc, arith}
 use Rattle.std.proofs.lemmas.Grind.{common_steps}
+use Rattle.std.proofs.lemmas.Bool.{not-false, not-true}
 use Rattle.flow_base.specs.declared.fault.Fault.{Fault}
 use Rattle.flow_base.specs.declared.fault.Fault.TheVariants.{Zero as ZeroDivisor}
 use Rattle.actions.specs.declared.expr.Op.{Op}
@@ -98,11 +99,6 @@ quotient_written K o0 o1 o2 o3 sa sb s fa fb xa xb x a b own =
 
 -- ---- an operator that isn't lazy
 
--- a denied test that fails holds
-not_false : (z : Bool) → not z ≡ false → z ≡ true
-not_false true h = refl
-not_false false h = sym h
-
 -- an operator after the code of both operands
 pub join_written : (K : Shape) (o0 o1 o2 o3 : List Line) (op : Op) (n : ℕ) (sa sb s : ExprSort) (fa fb : Flat)
     (xa xb x : Operand) → is_lazy op n ≡ false → is_nothing fb.code ≡ (n == 0)
@@ -110,9 +106,9 @@ pub join_written : (K : Shape) (o0 o1 o2 o3 : List Line) (op : Op) (n : ℕ) (sa
     → IsWritten K o2 o3 (operator_flat op xa.sort xb.sort (seen xa) (seen xb)) s x
     → IsWritten K o0 o3 (operator_flat op sa sb fa fb) s x
 join_written K o0 o1 o2 o3 ops.Or n sa sb s fa fb xa xb x z e a b own =
-    rw (e ∙ not_false (n == 0) z) (eager_written K o0 o1 o2 o3 ops.Or sa sb s fa fb xa xb x a b own)
+    rw (e ∙ not-false (n == 0) z) (eager_written K o0 o1 o2 o3 ops.Or sa sb s fa fb xa xb x a b own)
 join_written K o0 o1 o2 o3 ops.And n sa sb s fa fb xa xb x z e a b own =
-    rw (e ∙ not_false (n == 0) z) (eager_written K o0 o1 o2 o3 ops.And sa sb s fa fb xa xb x a b own)
+    rw (e ∙ not-false (n == 0) z) (eager_written K o0 o1 o2 o3 ops.And sa sb s fa fb xa xb x a b own)
 join_written K o0 o1 o2 o3 ops.Eq n sa sb s fa fb xa xb x z e a b own =
     eager_written K o0 o1 o2 o3 ops.Eq sa sb s fa fb xa xb x a b own
 join_written K o0 o1 o2 o3 ops.Ne n sa sb s fa fb xa xb x z e a b own =
@@ -164,16 +160,11 @@ lazy_lines h f l0 l1 l2 l3 l4 ca cb k ea eb test p q r s rest =
     ∙ ap (λ l. l1 ++ l) (lazy_begins h f cb k ea eb test rest)
     ∙ p (c.Set Truth k ea (c.If test (written h f cb (c.Set Truth k eb c.End)) c.End rest))
 
--- a denied test that holds fails
-not_true : (z : Bool) → not z ≡ true → z ≡ false
-not_true true h = sym h
-not_true false h = refl
-
 -- a lazy operator decides by code
 lazy_is : (op : Op) (n : ℕ) (l r : ExprSort) (fa fb : Flat) → is_lazy op n ≡ true → is_nothing fb.code ≡ (n == 0)
     → operator_flat op l r fa fb ≡ lazy_flat (λ e. going_on op e) fa fb
-lazy_is ops.Or n l r fa fb z e = rw (e ∙ not_true (n == 0) z) refl
-lazy_is ops.And n l r fa fb z e = rw (e ∙ not_true (n == 0) z) refl
+lazy_is ops.Or n l r fa fb z e = rw (e ∙ not-true (n == 0) z) refl
+lazy_is ops.And n l r fa fb z e = rw (e ∙ not-true (n == 0) z) refl
 lazy_is ops.Eq n l r fa fb z e = cc
 lazy_is ops.Ne n l r fa fb z e = cc
 lazy_is ops.Lt n l r fa fb z e = cc

@@ -4,7 +4,4 @@ pub mod LeafLemmas
 pub mod Composed
 pub mod Steps
 pub mod StoreLemmas
-pub mod RankLemmas
-pub mod NoteLemmas
-pub mod ChildLemmas
 pub mod FaultLemmas

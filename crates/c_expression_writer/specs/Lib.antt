@@ -1,4 +1,2 @@
-pub mod Parts
-pub mod FileShapes
 pub mod Locals
 pub mod Written

@@ -1,31 +1,16 @@
 //! Operators on numbers, in types with room for what they give.
-ghost use Rattle.std.specs.Prelude.{◌≡◌, ◌≤◌, ◌<◌, ◌^◌, pos, IfOk};
+ghost use Rattle.std.specs.Prelude.{◌≡◌, ◌≤◌, ◌^◌, pos, IfOk};
 ghost use Rattle.c_subset.specs.Lines.{expr_of};
 ghost use Rattle.c_subset.specs.Trees as c;
 ghost use Rattle.c_functions.specs.Translation as spec;
 
-use crate::pairs::both_made;
 use crate::precision::{Precisions, comparison_width, product_width, sum_width};
 use actions::Op;
+use c_shape::both_made;
 use c_subset::{Arithmetic, CExpr, CType, Comparison, Width};
+use fixed_point::power_of_two;
 use flow_base::Memory;
 use std::alloc::Global;
-
-/// 2 to the exponent.
-pub(crate) fn power_of_two(exponent: u32) -> i128
-    requires { exponent ≤ 126 }
-    ensures { result ≡ pos (2 ^ exponent) }
-{
-    unsigned_power(exponent) as i128
-}
-
-/// 2 to the exponent.
-fn unsigned_power(exponent: u32) -> u128
-    requires { exponent < 128 }
-    ensures { result ≡ 2 ^ exponent }
-{
-    1 << exponent
-}
 
 /// 2 to the exponent, as a constant of the width.
 pub(crate) fn power(width: Width, exponent: u32) -> CExpr

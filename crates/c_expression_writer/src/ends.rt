@@ -1,12 +1,10 @@
 //! The ends of the range of a scale, and tests against them.
 ghost use Rattle.std.specs.Prelude.{◌≡◌, IfOk, if◌then◌else◌};
-ghost use Rattle.fixed_point.specs.Scales as scales;
 ghost use Rattle.c_subset.specs.Lines.{expr_of};
 ghost use Rattle.c_subset.specs.Trees as c;
 ghost use Rattle.c_functions.specs.Storing as spec;
 
-use crate::arithmetic::power_of_two;
-use crate::pairs::both_made;
+use c_shape::both_made;
 use c_subset::{CExpr, CType, Comparison, Width};
 use fixed_point::Scale;
 use flow_base::Memory;
@@ -19,28 +17,6 @@ pub(crate) struct Brought {
     pub size: u32,
     pub width: Width,
     pub local: u32,
-}
-
-/// The least mantissa of a scale.
-pub fn least(scale: Scale) -> i128
-    ensures { result ≡ scales.least scale }
-{
-    if scale.signed {
-        -power_of_two(u32::from(scale.width) - 1)
-    } else {
-        0
-    }
-}
-
-/// The greatest mantissa of a scale.
-pub fn greatest(scale: Scale) -> i128
-    ensures { result ≡ scales.greatest scale }
-{
-    if scale.signed {
-        power_of_two(u32::from(scale.width) - 1) - 1
-    } else {
-        power_of_two(u32::from(scale.width)) - 1
-    }
 }
 
 /// Whether numbers of the size can pass the upper end of a scale, and the lower one where it is
@@ -71,7 +47,7 @@ pub(crate) fn value(of: Brought) -> CExpr
 fn low(of: Brought) -> CExpr
     ensures { expr_of result ≡ spec.low_c of.scale of.width }
 {
-    let end = least(of.scale);
+    let end = of.scale.least();
     CExpr::Const(CType::Signed(of.width), end)
 }
 
@@ -79,7 +55,7 @@ fn low(of: Brought) -> CExpr
 fn high(of: Brought) -> CExpr
     ensures { expr_of result ≡ spec.high_c of.scale of.width }
 {
-    let end = greatest(of.scale);
+    let end = of.scale.greatest();
     CExpr::Const(CType::Signed(of.width), end)
 }
 

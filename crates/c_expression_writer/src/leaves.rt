@@ -4,16 +4,16 @@ ghost use Rattle.active_config.specs.Tree.{state_count};
 ghost use Rattle.actions.specs.Exprs as exprs;
 ghost use Rattle.actions.specs.Sorts as sorts;
 ghost use Rattle.c_functions.specs.Plans.{Shape};
-ghost use Rattle.c_expression_writer.specs.FileShapes.{shape_seen};
+ghost use Rattle.c_shape.specs.FileShapes.{shape_seen};
 ghost use Rattle.c_expression_writer.specs.Written.{IsWritten, Lines, flat_at, literal_width};
 ghost use Rattle.c_expression_writer.specs.Written.{sort_at};
 
-use crate::file_shape::FileShape;
 use crate::operand::Operand;
 use crate::operators::negation;
 use crate::precision::width_for;
 use crate::sorts::sort_in;
 use actions::{ExprSort, datum_sort, literal_sort, negative_sort};
+use c_shape::FileShape;
 use c_subset::{CExpr, CType, Width};
 use fixed_point::Num;
 use flow_base::Memory;

@@ -6,10 +6,10 @@ ghost use Rattle.c_subset.specs.Lines.{Appends, expr_of, line_of, lines_in, line
 ghost use Rattle.c_functions.specs.Code.{FaultIf, written};
 ghost use Rattle.c_functions.specs.Plans.{faulted, helper};
 ghost use Rattle.c_functions.specs.Plans as plans;
-ghost use Rattle.c_expression_writer.specs.FileShapes.{shape_seen};
+ghost use Rattle.c_shape.specs.FileShapes.{shape_seen};
 
-use crate::file_shape::FileShape;
-use c_subset::{CExpr, CType, Line, Width};
+use c_shape::{FileShape, number};
+use c_subset::{CExpr, Line};
 use flow_base::{Fault, List, Memory};
 
 /// What a function returns after a fault: no result of code.
@@ -28,13 +28,6 @@ pub fn put(out: &mut List<Line>, line: Line) -> Result<(), Memory>
         ≡ lines_in (items_of out.old) ++ line_of line ∷ []) }
 {
     out.push(line)
-}
-
-/// A number of 32 bits.
-pub fn number(value: u32) -> CExpr
-    ensures { expr_of result ≡ plans.number value }
-{
-    CExpr::Const(CType::Unsigned(Width::W32), i128::from(value))
 }
 
 /// The number of a fault.

@@ -6,9 +6,9 @@ ghost use Rattle.c_subset.specs.Trees as c;
 ghost use Rattle.c_functions.specs.Translation as spec;
 
 use crate::arithmetic::{comparison, product, sum};
-use crate::pairs::both_made;
 use crate::precision::{Precisions, precision_of, width_for};
 use actions::{ExprSort, Op};
+use c_shape::both_made;
 use c_subset::{Arithmetic, CExpr, CType, Comparison};
 use flow_base::Memory;
 use std::alloc::Global;

@@ -7,13 +7,11 @@ ghost use Rattle.c_functions.specs.Events as spec;
 ghost use Rattle.c_functions.specs.Starts as starts;
 ghost use Rattle.c_functions.specs.Plans as plans;
 ghost use Rattle.c_subset.specs.Trees as c;
-ghost use Rattle.c_expression_writer.specs.FileShapes.{shape_seen};
+ghost use Rattle.c_shape.specs.FileShapes.{shape_seen};
 
-use crate::file_shape::FileShape;
-use crate::lines::number;
-use crate::pairs::both_made;
 use actions::{EventDecl, EventKind};
 use c_functions::WORD;
+use c_shape::{FileShape, both_made, number};
 use c_subset::{CExpr, Comparison};
 use flow_base::Memory;
 use std::alloc::Global;

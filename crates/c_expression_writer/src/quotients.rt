@@ -8,16 +8,17 @@ ghost use Rattle.c_functions.specs.Code as code;
 ghost use Rattle.c_functions.specs.Translation as spec;
 ghost use Rattle.c_functions.specs.Plans.{faulted};
 ghost use Rattle.c_functions.specs.Plans as plans;
-ghost use Rattle.c_expression_writer.specs.FileShapes.{shape_seen};
+ghost use Rattle.c_shape.specs.FileShapes.{shape_seen};
 ghost use Rattle.c_expression_writer.specs.Written.{IsWritten, seen};
 
 use crate::arithmetic::brought;
-use crate::file_shape::FileShape;
 use crate::lines::{put, put_fault_if};
 use crate::operand::Operand;
 use crate::precision::{Precisions, precision_of, quotient_width};
 use crate::sorts::sort_in;
 use actions::{ExprSort, Op, binary_sort};
+use c_functions::function_offsets::QUOTIENTS_OFFSET;
+use c_shape::FileShape;
 use c_subset::{CExpr, CType, Comparison, Line, Width};
 use flow_base::{Fault, List, Memory};
 use std::alloc::Global;
@@ -82,7 +83,7 @@ pub fn helper(shape: &FileShape<'_>, width: Width) -> u32
         Width::W64 => 3,
         Width::W128 => 4,
     };
-    shape.procs + 3 + place
+    shape.procs + QUOTIENTS_OFFSET + place
 }
 
 /// Two arguments.

@@ -4,10 +4,9 @@ ghost use Rattle.c_subset.specs.Lines.{expr_of};
 ghost use Rattle.c_subset.specs.Trees as c;
 ghost use Rattle.c_functions.specs.Storing as spec;
 
-use crate::arithmetic::power_of_two;
-use crate::pairs::both_made;
+use c_shape::both_made;
 use c_subset::{Arithmetic, Bitwise, CExpr, CType, Comparison, Width};
-use fixed_point::Scale;
+use fixed_point::{Scale, power_of_two};
 use flow_base::Memory;
 use std::alloc::Global;
 

@@ -7,7 +7,8 @@ use Rattle.c_subset.specs.Trees.{Function, End}
 use Rattle.c_subset.specs.Lines.{IsFunction}
 use Rattle.c_subset.specs.declared.trees.Function as declared
 use Rattle.c_subset.specs.declared.trees.CType.TheVariants.{Truth}
-use Rattle.c_expression_writer.specs.FileShapes.{shape_seen}
+use Rattle.c_functions.specs.declared.function_offsets.TheConstants.{OTHER_FUNCTIONS}
+use Rattle.c_shape.specs.FileShapes.{shape_seen}
 use Rattle.c_passes.specs.Passed.{functions_in, written_file}
 use Rattle.c_passes.proofs.FunctionLemmas.{function_is, passed_count}
 use Rattle.c_passes.proofs.StandLemmas.{stands}
@@ -19,7 +20,7 @@ pub no_function : Function
 no_function = record { result = Truth; parameters = []; body = End }
 
 -- eleven functions come after those of procedures
-pub functions_count : (made : Made) → IsMade made → made.shape.procs + 11 ≡ length (functions_of made)
+pub functions_count : (made : Made) → IsMade made → made.shape.procs + OTHER_FUNCTIONS ≡ length (functions_of made)
 unfolding functions_of
 functions_count made is =
     passed_count (shape_seen made.shape) (code_of made.code.now) is.shape made.functions.items is.passed.made

@@ -5,6 +5,7 @@ use Rattle.std.proofs.Common.{arith, Option, None}
 use Rattle.std.proofs.lemmas.Bool.Decides.{nat_tests}
 use Rattle.std.specs.Prelude.{EachIndex, IfSome}
 use Rattle.std.specs.List.{list_all}
+use Rattle.std.proofs.lemmas.Bool.{and_parts}
 use Rattle.c_subset.specs.Trees.{Function}
 use Rattle.c_text.specs.Labels.{Labels}
 use Rattle.c_header.specs.Header.{calls_number}
@@ -14,16 +15,16 @@ use Rattle.c_file.specs.Calls.{call_to, calls_from}
 use Rattle.c_file.specs.Reached.{IsFlagged, ReachedFromOutside, ReachedByCall, AreReached}
 use Rattle.c_file.specs.Made.{AreUses}
 use Rattle.c_file.specs.Heights.{IsCallOf, AreOpenAfter, HasMostOpen, leads_down}
-use Rattle.c_file.proofs.ReachLemmas.{both_true, none_there, same_item}
+use Rattle.c_file.proofs.ReachLemmas.{none_there, same_item}
 
 -- where all calls lead down, so does each
 down_at : (p : FunctionCall → Bool) (calls : List FunctionCall) (i : ℕ) (call : FunctionCall) → list_all p calls ≡ true
     → slice_get calls i ≡ Some call → p call ≡ true
 down_at p [] i call all there = absurd (none_there i call there)
 down_at p (x ∷ calls) zero call all there =
-    subst (λ (y : FunctionCall). p y ≡ true) (same_item x call there) (both_true (p x) (list_all p calls) all).0
+    subst (λ (y : FunctionCall). p y ≡ true) (same_item x call there) (and_parts (p x) (list_all p calls) all).0
 down_at p (x ∷ calls) (suc i) call all there =
-    down_at p calls i call (both_true (p x) (list_all p calls) all).1 there
+    down_at p calls i call (and_parts (p x) (list_all p calls) all).1 there
 
 -- what doesn't hold, or what does
 second_of : (a b : Bool) → (not a || b) ≡ true → a ≡ true → b ≡ true

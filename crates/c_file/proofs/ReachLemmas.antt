@@ -3,6 +3,7 @@ use Rattle.std.proofs.Common.{◌≡◌, ℕ, zero, suc, ◌+◌, ◌<◌, ◌�
 use Rattle.std.proofs.Common.{◌∷◌, length, drop, Some, slice_get, slice_index_or, slice_set, if◌then◌else◌, get_or}
 use Rattle.std.proofs.Common.{refl, sym, ap, ◌∙◌, subst, arith}
 use Rattle.std.proofs.lemmas.List.{at_drop_more, at_drop_all}
+use Rattle.std.proofs.lemmas.Bool.{and_parts, or_parts, not-true}
 use Rattle.code_shrink.specs.Search.{unset_count}
 use Rattle.code_shrink.proofs.Marking.{set_size, still_set, was_set}
 use Rattle.c_file.specs.declared.calls.FunctionCall.{FunctionCall}
@@ -10,20 +11,6 @@ use Rattle.c_file.specs.Reached.{IsReached, ReachedFromOutside, ReachedByCall, I
 use Rattle.c_file.specs.Closing.{is_new, followed, passed, finds_new, Closes}
 
 -- ---- truth values
-
-pub both_true : (a b : Bool) → (a && b) ≡ true → (a ≡ true) × (b ≡ true)
-both_true true true h = (refl, refl)
-both_true true false h = absurd (cc h)
-both_true false b h = absurd (cc h)
-
-either_false : (a b : Bool) → (a || b) ≡ false → (a ≡ false) × (b ≡ false)
-either_false true b h = absurd (cc h)
-either_false false b h = (refl, h)
-
--- what isn't true is false
-not_true : (b : Bool) → not b ≡ true → b ≡ false
-not_true true h = absurd (cc h)
-not_true false h = refl
 
 -- the first holds, and not without the second
 second_true : (a b : Bool) → (a && not b) ≡ false → a ≡ true → b ≡ true
@@ -74,14 +61,14 @@ unset_less (false ∷ bs) (suc p) h = ap suc (unset_less bs p h)
 -- a new call is of a function whose flag is set
 new_from : (flags : List Bool) (call : FunctionCall) → is_new flags call ≡ true → IsFlagged flags call.caller
 new_from flags call h =
-    (both_true (slice_index_or flags call.caller false) (not (slice_index_or flags call.callee true)) h).0
+    (and_parts (slice_index_or flags call.caller false) (not (slice_index_or flags call.callee true)) h).0
 
 -- and leads to one whose flag isn't set
 pub new_to : (flags : List Bool) (call : FunctionCall) → is_new flags call ≡ true
     → slice_index_or flags call.callee true ≡ false
 new_to flags call h =
-    not_true (slice_index_or flags call.callee true)
-    (both_true (slice_index_or flags call.caller false) (not (slice_index_or flags call.callee true)) h).1
+    not-true (slice_index_or flags call.callee true)
+    (and_parts (slice_index_or flags call.caller false) (not (slice_index_or flags call.callee true)) h).1
 
 -- so there is such a function
 pub new_there : (flags : List Bool) (call : FunctionCall) → is_new flags call ≡ true → call.callee < length flags
@@ -222,7 +209,7 @@ nothing_new : (calls : List FunctionCall) (flags : List Bool) → finds_new flag
     × ((i : ℕ) (c : FunctionCall) → slice_get calls i ≡ Some c → is_new flags c ≡ false)
 nothing_new [] flags none = (refl, λ i c at. absurd (none_there i c at))
 nothing_new (call ∷ calls) flags none =
-    let parts = either_false (is_new flags call) (finds_new (followed flags call) calls) none in
+    let parts = or_parts (is_new flags call) (finds_new (followed flags call) calls) none in
     let same : followed flags call ≡ flags = followed_as flags call false parts.0 in
     let rest = nothing_new calls flags (ap (λ (fs : List Bool). finds_new fs calls) (sym same) ∙ parts.1) in
     (ap (λ (fs : List Bool). passed fs calls) same ∙ rest.0, none_new_at flags call calls parts.0 rest.1)

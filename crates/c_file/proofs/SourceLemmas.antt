@@ -11,7 +11,7 @@ use Rattle.c_functions.specs.Files.{shape_of}
 use Rattle.c_functions.specs.Starts.{file_of}
 use Rattle.c_functions.specs.Writer.{plans_of}
 use Rattle.c_text.specs.Labels.{Labels, labels_for, labels_of}
-use Rattle.c_expression_writer.specs.FileShapes.{shape_seen, tests_seen}
+use Rattle.c_shape.specs.FileShapes.{shape_seen, tests_seen}
 use Rattle.c_file.specs.declared.made.Made.{Made}
 use Rattle.c_file.specs.declared.written.Written.{Written}
 use Rattle.c_lines.specs.Wrapped.{IsInLines}

@@ -23,7 +23,7 @@ use Rattle.c_subset.specs.Trees.{Function, File}
 use Rattle.c_passes.specs.Passed.{IsPassed}
 use Rattle.c_runs.specs.Claims.{FileRunsAsRules, FitsChart, Serves}
 use Rattle.c_text.specs.Labels.{Labels, labels_for, labels_of}
-use Rattle.c_expression_writer.specs.FileShapes.{shape_seen, tests_seen}
+use Rattle.c_shape.specs.FileShapes.{shape_seen, tests_seen}
 use Rattle.c_lines.specs.Wrapped.{IsInLines}
 use Rattle.c_header.specs.declared.facts.SourceFacts.{SourceFacts}
 use Rattle.c_header.specs.declared.identity.Identity.{Identity}

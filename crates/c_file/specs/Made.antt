@@ -4,7 +4,7 @@ use Rattle.code_language.specs.Code.{code_of}
 use Rattle.c_subset.specs.Trees.{Function}
 use Rattle.c_subset.specs.Lines.{lines_of}
 use Rattle.c_text.specs.Labels.{Labels, labels_of}
-use Rattle.c_expression_writer.specs.FileShapes.{shape_seen}
+use Rattle.c_shape.specs.FileShapes.{shape_seen}
 use Rattle.c_writer.specs.Functions.{IsShapeOf}
 use Rattle.c_readers.specs.Readers.{stores}
 use Rattle.c_passes.specs.Passed.{ArePassed, functions_in, written_file}

@@ -1,12 +1,10 @@
 //! What both files of a chart are made from.
 use crate::said::Said;
-use c_expression_writer::FileShape;
+use c_functions::function_offsets::OTHER_FUNCTIONS;
+use c_shape::FileShape;
 use c_subset::Function;
 use c_text::Labels;
 use code_language::Code;
-
-/// How many functions there are besides those of procedures.
-const OTHER_FUNCTIONS: u32 = 11;
 
 /// What both files of a chart are made from.
 #[derive(Drop)]

@@ -4,7 +4,7 @@ ghost use Rattle.checked_chart.specs.Kept.{chart_of};
 ghost use Rattle.code_language.specs.Code.{code_of};
 ghost use Rattle.c_file.specs.Files.{IsCodeFor, IsWrittenUnder};
 
-use c_expression_writer::Tests;
+use c_shape::Tests;
 use c_tests::tests_of;
 use chart_compile::compile;
 use checked_chart::Chart;

@@ -3,7 +3,7 @@ use Rattle.std.specs.Prelude.{◌≡◌, ℕ, ◌<◌, ◌^◌, pos, Bool, true,
 use Rattle.std.specs.Prelude.{if◌then◌else◌}
 use Rattle.std.specs.Prelude.{◌+◌, ◌-◌, ◌/◌, ◌%◌, ◌≢◌, slice_get, slice_index_or, take, count_by}
 use Rattle.std.specs.Int.{bit_at}
-use Rattle.active_config.specs.Tree.{Tree, state_count, parent_of, comp_of, children_of}
+use Rattle.active_config.specs.Tree.{Tree, state_count, parent_of, comp_of, children_of, is_or}
 use Rattle.c_subset.specs.Trees.{CExpr, Const}
 use Rattle.c_subset.specs.declared.trees.Width.{Width}
 use Rattle.c_subset.specs.declared.trees.Width.TheVariants.{W16, W32}
@@ -14,7 +14,7 @@ use Rattle.c_subset.specs.Trees.{Field, Bang, Bits, Compare, Both}
 use Rattle.c_subset.specs.Trees.{Block, Store as PutField}
 use Rattle.c_subset.specs.Meaning.{bits, CValue, Object, Store, Locals}
 use Rattle.c_subset.specs.Running.{Calls, with_field, outcome}
-use Rattle.c_functions.specs.States.{States, is_or, or_parent}
+use Rattle.c_functions.specs.States.{States, or_parent}
 
 -- the width of the numbers of children; for each OR the fields of its active child's number and of that which it
 -- remembers; for each other state the word of 32 bits that has its bit, and which bit

@@ -8,6 +8,7 @@ pub mod Statements
 pub mod Meaning
 pub mod Written
 pub mod Runs
+pub mod Planned
 pub mod Writer
 pub mod Layout
 pub mod Events

@@ -23,6 +23,8 @@ use Rattle.c_subset.specs.declared.trees.Comparison.TheVariants.{IsAtLeast}
 use Rattle.c_subset.specs.Trees.{CExpr, Const, Field, Element, Local, Bang, Calc, Compare, Both, Block}
 use Rattle.c_subset.specs.declared.trees.Case.{Case}
 use Rattle.c_subset.specs.Trees as c
+use Rattle.c_functions.specs.declared.function_offsets.TheConstants.{BARE_OFFSET, NOTED_OFFSET, QUOTIENTS_OFFSET}
+use Rattle.c_functions.specs.declared.function_offsets.TheConstants.{INIT_OFFSET, START_OFFSET, REACT_OFFSET}
 use Rattle.c_functions.specs.Assigning.{stores_of, assigned_block}
 use Rattle.c_functions.specs.Code.{written}
 use Rattle.c_functions.specs.Events.{leading_events, running_number}
@@ -101,11 +103,11 @@ on_function K = K.procs
 
 -- that which tells whether a state is active and none of its children is
 abbrev pub bare_function : Shape → ℕ
-bare_function K = K.procs + 1
+bare_function K = K.procs + BARE_OFFSET
 
 -- that which calls noted procedures
 abbrev pub noted_function : Shape → ℕ
-noted_function K = K.procs + 2
+noted_function K = K.procs + NOTED_OFFSET
 
 -- the widths in ascending order
 abbrev pub width_place : Width → ℕ
@@ -117,19 +119,19 @@ width_place W128 = 4
 
 -- flow_divW for each width
 abbrev pub helper : Shape → Width → ℕ
-helper K w = K.procs + 3 + width_place w
+helper K w = K.procs + QUOTIENTS_OFFSET + width_place w
 
 -- that which stores the first values
 abbrev pub init_function : Shape → ℕ
-init_function K = K.procs + 8
+init_function K = K.procs + INIT_OFFSET
 
 -- the start
 abbrev pub start_function : Shape → ℕ
-start_function K = K.procs + 9
+start_function K = K.procs + START_OFFSET
 
 -- the reaction
 abbrev pub react_function : Shape → ℕ
-react_function K = K.procs + 10
+react_function K = K.procs + REACT_OFFSET
 
 -- ---- words
 

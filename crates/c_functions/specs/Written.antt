@@ -1,10 +1,10 @@
 -- The statements that are written for instructions.
 use Rattle.std.specs.Prelude.{◌≡◌, ◌<◌, ℕ, List, [], ◌∷◌, drop, Option, Some, None, Bool, true, false}
-use Rattle.active_config.specs.Tree.{Tree, state_count, parent_of, comp_of, children_of}
+use Rattle.active_config.specs.Tree.{Tree, state_count, parent_of, comp_of, children_of, is_or}
 use Rattle.code_language.specs.Code.{Procedures, instructions}
 use Rattle.code_language.specs.Instrs.{Cond, Instr}
 use Rattle.code_language.specs.Instrs as i
-use Rattle.c_functions.specs.States.{is_or, or_parent}
+use Rattle.c_functions.specs.States.{or_parent}
 use Rattle.c_functions.specs.Statements.{Check, Test, Block}
 use Rattle.c_functions.specs.Statements as c
 

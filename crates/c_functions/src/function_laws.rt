@@ -1,7 +1,7 @@
 //! What holds of the states in the struct, and of the functions of procedures.
 ghost use Rattle.std.specs.Prelude.{◌≡◌, ℕ, ◌<◌, ◌≤◌, ◌^◌, length, slice_set, Option, Some, None, Bool};
 ghost use Rattle.std.specs.Prelude.{true, suc, ◌+◌, ◌*◌, List, []};
-ghost use Rattle.active_config.specs.Tree.{Tree, state_count, parent_of, comp_of};
+ghost use Rattle.active_config.specs.Tree.{Tree, state_count, parent_of, comp_of, is_or};
 ghost use Rattle.active_config.specs.Marks.{Configuration, mark_count};
 ghost use Rattle.c_subset.specs.Trees.{Block, File};
 ghost use Rattle.c_subset.specs.declared.trees.Width.{Width};
@@ -20,7 +20,7 @@ ghost use Rattle.code_language.specs.WellFormed.{IsCode};
 ghost use Rattle.code_language.specs.Ahead.{IsOver};
 ghost use Rattle.code_language.specs.Moments.{HasStateNames, IsMoment};
 ghost use Rattle.c_functions.specs.Claims.{Has, ShowsActive};
-ghost use Rattle.c_functions.specs.States.{States, Shows, is_or, or_parent, c_on, c_bare, last_by};
+ghost use Rattle.c_functions.specs.States.{States, Shows, or_parent, c_on, c_bare, last_by};
 ghost use Rattle.c_functions.specs.States.{choose_child, set_flag};
 ghost use Rattle.c_functions.specs.Statements.{CMemory, Block as Body};
 ghost use Rattle.c_functions.specs.Runs.{Stands};

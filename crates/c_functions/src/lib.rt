@@ -19,12 +19,17 @@
 //!   function stands to a run of code; `specs/Starts.antt` has the functions that are called from
 //!   outside, what they refuse and the runs of a file, `specs/Events.antt` which numbers are events,
 //!   and `specs/Inputs.antt` the declarations whose first values are given.
+//! - `function_offsets`: the numbers of the functions after those of procedures.
 //! - `types`: the type of words and that of the field of a datum, which the crates above write and
 //!   print. It is the one code that runs.
+//!
+//! Lemmas in `proofs` have the name of the specification that they serve in front of their own, and
+//! `proofs/Lib.antt` lists them by these modules.
 #![tactic(auto)]
 
 mod expression_laws;
 mod function_laws;
+pub mod function_offsets;
 mod plan_laws;
 mod types;
 

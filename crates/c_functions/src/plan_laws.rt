@@ -1,7 +1,7 @@
 //! What holds of the plans of C functions, and of the fields of states.
 ghost use Rattle.std.specs.Prelude.{◌≡◌, ◌<◌, ℕ, suc, pred, List, [], length, true, false, Some};
 ghost use Rattle.std.specs.Prelude.{if◌then◌else◌};
-ghost use Rattle.active_config.specs.Tree.{Tree, state_count, parent_of, comp_of};
+ghost use Rattle.active_config.specs.Tree.{Tree, state_count, parent_of, comp_of, is_or};
 ghost use Rattle.active_config.specs.Marks.{Configuration, is_on, is_bare, is_last, can_mark};
 ghost use Rattle.active_config.specs.Marks.{with_mark, with_last, no_marks, IsConsistent};
 ghost use Rattle.flow_base.specs.declared.bounds.Bounds.{Bounds};
@@ -13,13 +13,14 @@ ghost use Rattle.code_language.specs.Moments.{IsMoment};
 ghost use Rattle.code_language.specs.Reactions.{first_frame, program_of};
 ghost use Rattle.actions.specs.World.{World};
 ghost use Rattle.actions.specs.Work.{Now};
-ghost use Rattle.c_functions.specs.Statements.{Block, CMemory};
-ghost use Rattle.c_functions.specs.Meaning.{Sums, call_fn};
+ghost use Rattle.c_functions.specs.Statements.{CMemory};
+ghost use Rattle.c_functions.specs.Meaning.{call_fn};
 ghost use Rattle.c_functions.specs.Written.{AreWritten};
 ghost use Rattle.c_functions.specs.Writer.{plans_of};
 ghost use Rattle.c_functions.specs.Runs.{Agree, CallsDo, EndsWith, EndsAsCode, Stuck, Stands};
 ghost use Rattle.c_functions.specs.Runs.{own_sums, world_of};
-ghost use Rattle.c_functions.specs.States.{States, Numbers, Shows, is_or, shown, no_fields};
+ghost use Rattle.c_functions.specs.Planned.{Planned, code_in, program_in};
+ghost use Rattle.c_functions.specs.States.{States, Numbers, Shows, shown, no_fields};
 ghost use Rattle.c_functions.specs.States.{place_number, c_on, c_bare, c_last, c_mark, c_clear};
 ghost use Rattle.c_functions.specs.States.{c_keep};
 
@@ -70,12 +71,8 @@ pub fn one_store_shows_consistent_marks()
 
 /// A call of a function does what a frame of its procedure does.
 pub fn functions_do_what_procedures_do()
-    ensures { (t : Tree) (n : ℕ → ℕ) (k : Procedures) (b : Bounds) (sums : Sums)
-        (bodies : ℕ → Block) → Numbers t n
-        → length t.comps ≡ state_count t → Agree t n sums → AreWritten t n k bodies → (fuel : ℕ)
-        → CallsDo (record { tree = t; bounds = b; procedures = k }) n (pred fuel)
-        (call_fn (record { sums = sums; tree = t; numbers = n; bounds = b; bodies = bodies })
-        fuel) }
+    ensures { (t : Tree) (k : Procedures) (plans : Planned t k) (fuel : ℕ) → CallsDo (code_in plans)
+        plans.numbers (pred fuel) (call_fn (program_in plans) fuel) }
 {}
 
 /// The plans of well-formed code are written for its procedures, whatever their jumps are.
@@ -86,15 +83,10 @@ pub fn plans_are_written_for_their_code()
 /// A call of a function from outside, with no notes, ends as the run of code from the first frame
 /// of its procedure.
 pub fn calls_from_outside_end_as_code()
-    ensures { (t : Tree) (n : ℕ → ℕ) (k : Procedures) (b : Bounds) (sums : Sums)
-        (bodies : ℕ → Block) (fuel p : ℕ)
-        (now : Now) (m : CMemory) (w : World) → Numbers t n
-        → length t.comps ≡ state_count t → Agree t n sums → AreWritten t n k bodies → Stands t n m w
-        → m.notes ≡ []
-        → EndsWith (record { tree = t; bounds = b; procedures = k }) n (pred fuel)
-        (first_frame p w now)
-        (call_fn (record { sums = sums; tree = t; numbers = n; bounds = b; bodies = bodies })
-        fuel p now 0 0 0 m) }
+    ensures { (t : Tree) (k : Procedures) (plans : Planned t k) (fuel p : ℕ) (now : Now)
+        (m : CMemory) (w : World) → Stands t plans.numbers m w → m.notes ≡ []
+        → EndsWith (code_in plans) plans.numbers (pred fuel) (first_frame p w now)
+        (call_fn (program_in plans) fuel p now 0 0 0 m) }
 {}
 
 /// Fields that are all 0 show that no state is active and none is remembered; and 1 + a state's
@@ -124,14 +116,10 @@ pub fn code_is_never_stuck()
 /// none: it is neither starved nor wrong. A start and a reaction take no more steps than
 /// `most_instructions`.
 pub fn calls_of_well_formed_code_end_as_it()
-    ensures { (k : Code) (n : ℕ → ℕ) (b : Bounds) (sums : Sums) (bodies : ℕ → Block) (fuel p : ℕ)
-        (now : Now)
-        (m : CMemory) (w : World) → IsCode k → IsMoment k b (first_frame p w now)
-        → IsOver (run (program_of k b) fuel (first_frame p w now)) → Numbers k.tree n
-        → length k.tree.comps ≡ state_count k.tree → Agree k.tree n sums
-        → AreWritten k.tree n k.procedures bodies
-        → Stands k.tree n m w → m.notes ≡ []
-        → EndsAsCode (program_of k b) n (first_frame p w now)
-        (call_fn (record { sums = sums; tree = k.tree; numbers = n; bounds = b; bodies = bodies })
-        (suc fuel) p now 0 0 0 m) }
+    ensures { (k : Code) (plans : Planned k.tree k.procedures) (fuel p : ℕ) (now : Now)
+        (m : CMemory) (w : World) → IsCode k → IsMoment k plans.bounds (first_frame p w now)
+        → IsOver (run (program_of k plans.bounds) fuel (first_frame p w now))
+        → Stands k.tree plans.numbers m w → m.notes ≡ []
+        → EndsAsCode (program_of k plans.bounds) plans.numbers (first_frame p w now)
+        (call_fn (program_in plans) (suc fuel) p now 0 0 0 m) }
 {}

@@ -6,13 +6,12 @@ use Rattle.std.specs.Prelude.{codes, decimal}
 use Rattle.std.specs.List.{list_all, AllByRecursion}
 use Rattle.std.proofs.lemmas.Bool.Decides.{nat_tests}
 use Rattle.std.proofs.lemmas.List.{append-nil, length-append, length-map, length-replicate, drop_all}
-use Rattle.active_config.specs.Tree.{IsTree, state_count, comp_of}
+use Rattle.active_config.specs.Tree.{IsTree, state_count, comp_of, is_or}
 use Rattle.actions.specs.declared.names.Var.{Var}
 use Rattle.chart_lexer.specs.Words.{is_name}
 use Rattle.code_fields.specs.Spelling.{var_kind_word}
 use Rattle.chart_parts.specs.Plain.{IsPlain}
 use Rattle.chart_parts.proofs.PlainLemmas.{tested, plain_append}
-use Rattle.c_functions.specs.States.{is_or}
 use Rattle.c_subset.specs.declared.trees.CType.{CType}
 use Rattle.c_subset.specs.declared.trees.CType.TheVariants.{Unsigned}
 use Rattle.c_subset.specs.declared.trees.Width.TheVariants.{W16, W32}

@@ -4,12 +4,11 @@ use Rattle.std.specs.Prelude.{if◌then◌else◌}
 use Rattle.std.specs.Fmt.{signed_decimal}
 use Rattle.fixed_point.specs.declared.scale.Scale.{Scale}
 use Rattle.fixed_point.specs.Scales.{least, greatest}
-use Rattle.active_config.specs.Tree.{state_count, comp_of, is_child}
+use Rattle.active_config.specs.Tree.{state_count, comp_of, is_child, is_or}
 use Rattle.actions.specs.declared.names.Sort.{Sort}
 use Rattle.actions.specs.declared.names.Sort.TheVariants as sorts
 use Rattle.actions.specs.declared.names.Var.{Var}
 use Rattle.code_fields.specs.Spelling.{sort_word, var_kind_word}
-use Rattle.c_functions.specs.States.{is_or}
 use Rattle.c_functions.specs.Plans.{Shape, layout}
 use Rattle.c_text.specs.Labels.{Labels, field_label, type_of_field}
 use Rattle.c_text.specs.Types.{type_text}

@@ -1,12 +1,12 @@
 //! The fields of the struct, printed.
 ghost use Rattle.std.specs.Prelude.{◌≡◌, ◌+◌, ◌<◌, ◌^◌, ◌++◌, length, string_bytes, OnOk};
-ghost use Rattle.c_expression_writer.specs.FileShapes.{shape_seen};
+ghost use Rattle.c_shape.specs.FileShapes.{shape_seen};
 ghost use Rattle.c_text.specs.Labels.{labels_of};
 ghost use Rattle.c_header.specs.Fields as spec;
 ghost use Rattle.c_header.specs.Header.{rows_text};
 
 use actions::{Sort, Var};
-use c_expression_writer::{FileShape, greatest, least};
+use c_shape::FileShape;
 use c_text::{Labels, print_field_label, print_field_type};
 use code_fields::{print_number, print_signed, print_sort, var_kind_word};
 use fixed_point::Scale;
@@ -106,8 +106,8 @@ fn print_limits(out: &mut String, scale: Scale) -> Result<(), AllocError>
     ensures { OnOk result
         (string_bytes out.new ≡ string_bytes out.old ++ spec.limits_text scale) }
 {
-    print_signed(out, ": ", least(scale))?;
-    print_signed(out, " to ", greatest(scale))
+    print_signed(out, ": ", scale.least())?;
+    print_signed(out, " to ", scale.greatest())
 }
 
 /// Appends the unit of a number with a fraction.

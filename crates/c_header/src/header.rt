@@ -1,6 +1,6 @@
 //! The header, printed.
 ghost use Rattle.std.specs.Prelude.{◌≡◌, ◌++◌, string_bytes, true, OnOk};
-ghost use Rattle.c_expression_writer.specs.FileShapes.{shape_seen};
+ghost use Rattle.c_shape.specs.FileShapes.{shape_seen};
 ghost use Rattle.c_text.specs.Labels.{labels_of};
 ghost use Rattle.c_header.specs.Header as spec;
 
@@ -10,9 +10,9 @@ use crate::identity::{Identity, print_identity, print_sums};
 use crate::numbers::{print_bounds, print_calls, print_events, print_faults};
 use crate::states::{About, print_states};
 use crate::words::print_named;
-use c_expression_writer::FileShape;
 use c_functions::WORD;
 use c_names::print_guard_name;
+use c_shape::FileShape;
 use c_subset::CType;
 use c_text::{Labels, print_prototype};
 use std::alloc::{AllocError, Global};

@@ -2,7 +2,7 @@
 ghost use Rattle.std.specs.Prelude.{◌≡◌, ◌<◌, ◌++◌, string_bytes, OnOk};
 ghost use Rattle.active_config.specs.Tree.{IsTree, state_count};
 ghost use Rattle.active_config.specs.Tree as trees;
-ghost use Rattle.c_expression_writer.specs.FileShapes.{shape_seen};
+ghost use Rattle.c_shape.specs.FileShapes.{shape_seen};
 ghost use Rattle.c_functions.specs.Layout.{on_c};
 ghost use Rattle.c_functions.specs.Plans.{layout};
 ghost use Rattle.c_text.specs.declared.kinds.Kind.TheVariants.{Outside};
@@ -15,8 +15,8 @@ use crate::fields::{print_commented, print_field};
 use crate::paths::{Form, name_of, print_path, print_place, print_state_label};
 use crate::words::print_named;
 use active_config::Shape;
-use c_expression_writer::FileShape;
-use c_text::{Labels, is_or, print_test};
+use c_shape::FileShape;
+use c_text::{Labels, print_test};
 use code_fields::print_number;
 use std::alloc::{AllocError, Global};
 
@@ -69,14 +69,14 @@ fn print_state(
 {
     match about {
         About::Active => {
-            if is_or(shape.tree.comp(state)) {
+            if shape.tree.comp(state).is_or() {
                 print_active(out, chart, labels, shape, state)
             } else {
                 Ok(())
             }
         }
         About::Remembered => {
-            if is_or(shape.tree.comp(state)) {
+            if shape.tree.comp(state).is_or() {
                 print_last(out, chart, labels, shape, state)
             } else {
                 Ok(())

@@ -17,7 +17,7 @@ use Rattle.c_subset.specs.Meaning.{compared, read_as, Store, Locals, meaning}
 use Rattle.c_subset.specs.Running.{Outcome, Returns, with_value, and_on, same_type, Calls, outcome}
 use Rattle.c_subset.proofs.TypeLemmas.{truth-stays}
 use Rattle.c_functions.specs.Plans.{word, number}
-use Rattle.c_functions.proofs.Tests.{unsigned, own-stays, compared-unsigned, equal-numbers}
+use Rattle.c_functions.proofs.LayoutTests.{unsigned, own-stays, compared-unsigned, equal-numbers}
 use Rattle.c_trees.specs.Blocks.{is_end}
 use Rattle.c_trees.proofs.Lists.{end-is}
 use Rattle.c_loops.specs.Results.{Known, Exactly, NotZero, Anything, Test, Equal, Unequal, Other, opposite}

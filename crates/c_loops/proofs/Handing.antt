@@ -10,8 +10,8 @@ use Rattle.c_subset.specs.Meaning.{CValue, read_as, Store, Locals, meaning}
 use Rattle.c_subset.specs.Running.{Outcome, Falls, Returns, Starves, GoesWrong, with_value, same_type}
 use Rattle.c_subset.specs.Running.{with_local, Calls, with_values, called, outcome, with_arguments}
 use Rattle.c_functions.specs.Plans.{word}
-use Rattle.c_functions.proofs.Tests.{unsigned}
-use Rattle.c_functions.proofs.Words.{called-goes}
+use Rattle.c_functions.proofs.LayoutTests.{unsigned}
+use Rattle.c_functions.proofs.PlansWords.{called-goes}
 use Rattle.c_loops.specs.Results.{Known, is_local, gives_each_back}
 use Rattle.c_loops.specs.Loops.{are_locals, are_words, hands_on}
 use Rattle.c_loops.proofs.Locals.{type-is, More, AreTyped, put-typed, put-there}

@@ -15,7 +15,7 @@ use Rattle.c_subset.specs.Meaning.{as_unsigned, one_if, is_true, converted, prom
 use Rattle.c_subset.specs.Meaning.{combined, compared, truth, read_as, read, element, Store, Locals, meaning}
 use Rattle.c_subset.specs.Running.{same_type, no_locals, with_local}
 use Rattle.c_subset.proofs.TypeLemmas.{truth-stays}
-use Rattle.c_functions.proofs.Tests.{own-stays}
+use Rattle.c_functions.proofs.LayoutTests.{own-stays}
 
 -- ---- types
 

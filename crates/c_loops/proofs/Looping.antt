@@ -14,7 +14,7 @@ use Rattle.c_subset.specs.Running.{Outcome, Falls, Returns, Starves, GoesWrong, 
 use Rattle.c_subset.specs.Running.{same_type, no_locals}
 use Rattle.c_subset.specs.Running.{Calls, turns, outcome, with_arguments, returned, run, call}
 use Rattle.c_functions.specs.Plans.{word}
-use Rattle.c_functions.proofs.Tests.{own-stays}
+use Rattle.c_functions.proofs.LayoutTests.{own-stays}
 use Rattle.c_loops.specs.Results.{Known, Anything, gives_each_back}
 use Rattle.c_loops.specs.Loops.{is_some_of, ends, rests, results, again, loops, are_words, forever, is_procedure}
 use Rattle.c_loops.specs.Loops.{are_few, may_loop, looped, loops_from, with_loops}

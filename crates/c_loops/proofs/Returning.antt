@@ -19,7 +19,7 @@ use Rattle.c_subset.specs.Running.{Outcome, Falls, Returns, Starves, GoesWrong, 
 use Rattle.c_subset.specs.Running.{with_local, brought_to, with_field, with_element, Calls, with_values, called}
 use Rattle.c_subset.specs.Running.{selected, turns, outcome, with_arguments, returned, run, call}
 use Rattle.c_functions.specs.Plans.{word}
-use Rattle.c_functions.proofs.Tests.{own-stays}
+use Rattle.c_functions.proofs.LayoutTests.{own-stays}
 use Rattle.c_loops.specs.Results.{Known, NotZero, Anything, Test, Equal, Unequal, Other, opposite}
 use Rattle.c_loops.specs.Results.{constant_of, is_local, test_of, gives_each_back}
 use Rattle.c_loops.specs.Loops.{hands_on, leads_back, rests, after_test, constant_result, result_of}

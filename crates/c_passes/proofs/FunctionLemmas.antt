@@ -17,7 +17,7 @@ use Rattle.c_functions.specs.Writer.{plans_of}
 use Rattle.c_functions.specs.Plans.{Shape, Tests}
 use Rattle.c_functions.specs.Files.{shape_of, functions_c, procedure_c}
 use Rattle.c_functions.specs.Starts.{file_of}
-use Rattle.c_functions.proofs.Functions.{range-length}
+use Rattle.c_functions.proofs.FilesFunctions.{range-length}
 use Rattle.c_loops.specs.Loops.{looped, loops_from}
 use Rattle.c_bare.specs.Bare.{AreFunctions}
 use Rattle.c_writer.specs.Functions.{IsAt, IsShapeOf}

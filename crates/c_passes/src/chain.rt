@@ -1,23 +1,21 @@
 //! The functions of the C of code.
-ghost use Rattle.std.specs.Prelude.{◌≡◌, ◌<◌, ◌++◌, ◌∷◌, [], IfOk, OnOk, Some, length};
+ghost use Rattle.std.specs.Prelude.{◌≡◌, ◌<◌, IfOk, Some, length};
 ghost use Rattle.std.specs.Prelude.{slice_get};
 ghost use Rattle.code_language.specs.Code.{code_of};
-ghost use Rattle.c_expression_writer.specs.FileShapes.{shape_seen};
+ghost use Rattle.c_shape.specs.FileShapes.{shape_seen};
 ghost use Rattle.c_subset.specs.Lines.{IsFunction};
 ghost use Rattle.c_subset.specs.Trees as c;
 ghost use Rattle.c_writer.specs.Functions.{IsShapeOf};
 ghost use Rattle.c_passes.specs.Passed.{ArePassed, looped_file, written_file};
 
-use c_expression_writer::FileShape;
+use c_functions::function_offsets::OTHER_FUNCTIONS;
 use c_loops::with_loop;
+use c_shape::FileShape;
 use c_subset::Function;
 use c_writer::function;
 use code_language::Code;
 use flow_base::Memory;
 use std::alloc::Global;
-
-/// How many functions there are besides those of procedures.
-const OTHER_FUNCTIONS: u32 = 11;
 
 /// How many functions there are.
 fn count(shape: &FileShape<'_>, code: &Code) -> u32
@@ -49,16 +47,6 @@ fn looped(
     with_loop(alloc, number, written)
 }
 
-/// Appends a function.
-fn push(functions: &mut Vec<Function>, function: Function) -> Result<(), Memory>
-    ensures { OnOk result (functions.new.items ≡ functions.old.items ++ function ∷ []) }
-{
-    match functions.push(function) {
-        Ok(()) => Ok(()),
-        Err(_) => Err(Memory),
-    }
-}
-
 /// The functions of the C of code, by number: first come those of the procedures, each a loop where
 /// it may be, then those after them.
 ///
@@ -71,7 +59,7 @@ pub fn functions(alloc: Global, shape: &FileShape<'_>, code: &Code) -> Result<Ve
 {
     let mut made = Vec::new(alloc);
     for number in 0..count(shape, code) {
-        push(&mut made, looped(alloc, shape, code, number)?)?;
+        made.push(looped(alloc, shape, code, number)?)?;
     }
     Ok(made)
 }

@@ -19,13 +19,13 @@ use Rattle.code_copies.specs.SameRuns.{HasSameRuns}
 use Rattle.chart_code.specs.Bodies.{code_of_chart}
 use Rattle.chart_code.proofs.ListResults.{results_below}
 use Rattle.c_functions.specs.Writer.{plans_of}
-use Rattle.c_functions.proofs.Writing.{plans_are}
+use Rattle.c_functions.proofs.WriterLemmas.{plans_are}
 use Rattle.c_functions.specs.Failing.{AfterIsRight}
 use Rattle.c_functions.specs.Plans.{Tests, all_tests, bad}
 use Rattle.c_functions.specs.Moments.{HasSmallResults, MayEnd, MayEndIn}
 use Rattle.c_functions.specs.Starts.{AllGiven}
 use Rattle.c_functions.specs.Inputs.{with_inputs}
-use Rattle.c_functions.proofs.FileRuns.{runs-on, refuses}
+use Rattle.c_functions.proofs.StartsRuns.{runs-on, refuses}
 use Rattle.c_runs.specs.Claims.{FitsChart, RunsAsRules, Serves, with_first}
 use Rattle.c_runs.proofs.Given.{code_runs-with}
 use Rattle.c_runs.proofs.EachMoment.{run_ends}

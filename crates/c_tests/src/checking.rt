@@ -2,11 +2,11 @@
 ghost use Rattle.std.specs.Prelude.{◌≡◌, IsTrue};
 ghost use Rattle.code_language.specs.Code.{code_of, instrs_of};
 ghost use Rattle.c_functions.specs.Failing.{AfterIsRight};
-ghost use Rattle.c_expression_writer.specs.FileShapes.{tests_seen};
+ghost use Rattle.c_shape.specs.FileShapes.{tests_seen};
 ghost use Rattle.c_tests.specs.Checked as spec;
 
 use crate::failing::can_fail;
-use c_expression_writer::Tests;
+use c_shape::Tests;
 use code_language::{Instr, RawCode};
 
 /// Whether the result of a procedure is tested after a call.

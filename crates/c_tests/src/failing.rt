@@ -4,10 +4,10 @@ ghost use Rattle.actions.specs.Trees.{expr_of};
 ghost use Rattle.code_language.specs.Code.{code_of, cond_of, instr_of};
 ghost use Rattle.c_functions.specs.Failing as spec;
 ghost use Rattle.c_functions.specs.Plans.{declared_at};
-ghost use Rattle.c_expression_writer.specs.FileShapes.{tests_seen};
+ghost use Rattle.c_shape.specs.FileShapes.{tests_seen};
 
 use actions::{Expr, Op};
-use c_expression_writer::Tests;
+use c_shape::Tests;
 use code_language::{Cond, Instr, RawCode};
 use fixed_point::Mode;
 

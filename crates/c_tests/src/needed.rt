@@ -2,11 +2,11 @@
 ghost use Rattle.std.specs.Prelude.{◌≡◌, IfOk};
 ghost use Rattle.code_language.specs.Code.{code_of};
 ghost use Rattle.c_functions.specs.Failing.{AfterIsRight};
-ghost use Rattle.c_expression_writer.specs.FileShapes.{tests_seen};
+ghost use Rattle.c_shape.specs.FileShapes.{tests_seen};
 
 use crate::checking::is_right;
 use crate::spreading::{mark_failing, spread};
-use c_expression_writer::Tests;
+use c_shape::Tests;
 use code_language::Code;
 use flow_base::Memory;
 use std::alloc::Global;

@@ -3,7 +3,7 @@
 ghost use Rattle.std.specs.Prelude.{◌≡◌};
 
 use crate::checking::none_can_fail;
-use c_expression_writer::Tests;
+use c_shape::Tests;
 use code_language::{Instr, RawCode};
 
 /// How often the procedures are gone over at most, up and down.

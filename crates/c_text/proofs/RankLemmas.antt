@@ -4,8 +4,7 @@ use Rattle.std.specs.List.{count_by}
 use Rattle.std.proofs.lemmas.List.{take_all, length-take}
 use Rattle.std.proofs.lemmas.List.Sums.{count_by_more_yes, count_by_more_no, count_by-le-length}
 use Rattle.active_config.specs.declared.comp.Comp.TheVariants.{Leaf}
-use Rattle.active_config.specs.Tree.{Tree, comp_of}
-use Rattle.c_functions.specs.States.{is_or}
+use Rattle.active_config.specs.Tree.{Tree, comp_of, is_or}
 use Rattle.c_functions.specs.Layout.{or_count, or_rank}
 
 -- none before the first state

@@ -2,11 +2,10 @@
 ghost use Rattle.std.specs.Prelude.{◌≡◌};
 ghost use Rattle.actions.specs.Names.{names_of};
 ghost use Rattle.c_functions.specs.Layout.{or_count};
-ghost use Rattle.c_functions.specs.States.{is_or};
 ghost use Rattle.c_text.specs.Labels as spec;
 
 use actions::Names;
-use active_config::{Comp, Shape};
+use active_config::Shape;
 
 /// What the names in a file are made of.
 #[derive(Clone, Copy)]
@@ -45,19 +44,9 @@ fn count_ors(tree: &Shape) -> u32
 {
     let mut ors: u32 = 0;
     for state in 0..tree.len() {
-        if is_or(tree.comp(state)) {
+        if tree.comp(state).is_or() {
             ors += 1;
         }
     }
     ors
-}
-
-/// Whether a state with that composition is an OR.
-pub fn is_or(comp: Comp) -> bool
-    ensures { result ≡ is_or comp }
-{
-    match comp {
-        Comp::Or => true,
-        Comp::Leaf | Comp::And => false,
-    }
 }

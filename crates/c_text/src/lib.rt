@@ -24,8 +24,8 @@ mod types;
 pub use expressions::print_test;
 pub use fields::{print_field_label, print_field_type};
 pub use functions::{print_function, print_prototype};
-pub use kinds::{Kind, function_kind, print_function_label};
-pub use labels::{Labels, is_or};
+pub use kinds::{Kind, function_kind};
+pub use labels::Labels;
 pub use laws::{
     fields_are_those_of_the_struct, names_are_distinct, no_local_hides_a_function,
     no_name_is_a_keyword,

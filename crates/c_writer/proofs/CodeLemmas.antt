@@ -15,7 +15,7 @@ use Rattle.code_language.specs.WellFormed.{known_of, IsCode}
 use Rattle.code_language.proofs.ListLemmas.{or_false}
 use Rattle.c_subset.specs.Trees.{Function}
 use Rattle.c_functions.specs.Writer.{stays_within, plans_of}
-use Rattle.c_functions.proofs.Writing.{sound_at, stays_sound}
+use Rattle.c_functions.proofs.WriterLemmas.{sound_at, stays_sound}
 use Rattle.c_functions.specs.Files.{shape_of, procedure_c, functions_c}
 use Rattle.c_functions.specs.Plans.{Shape}
 use Rattle.c_functions.specs.Starts.{file_of}

@@ -9,7 +9,7 @@ use Rattle.c_functions.specs.Statements.{Block}
 use Rattle.c_functions.specs.Statements as plan
 use Rattle.c_functions.specs.Written.{test_of, straight}
 use Rattle.c_functions.specs.Writer.{jump_of, stays_within, join_of, fork_at, write_one, write}
-use Rattle.c_functions.proofs.Writing.{stays_rest, stays_drop, join_within, join_after, write_enough}
+use Rattle.c_functions.proofs.WriterLemmas.{stays_rest, stays_drop, join_within, join_after, write_enough}
 use Rattle.c_functions.specs.Plans.{Shape}
 use Rattle.c_writer.specs.Parts.{StaysWithin, fork_end, part}
 use Rattle.c_writer.proofs.PlaceLemmas.{stays_end}

@@ -8,7 +8,7 @@ use Rattle.code_language.specs.Code.{instr_of, instrs_of}
 use Rattle.code_language.specs.Instrs.{Instr}
 use Rattle.code_language.proofs.ListLemmas.{drop_map_at}
 use Rattle.c_functions.specs.Writer.{jump_of, stays_within, skip_of, join_of}
-use Rattle.c_functions.proofs.Writing.{join_within}
+use Rattle.c_functions.proofs.WriterLemmas.{join_within}
 
 -- the instruction that stands at a place
 pub get_at : (xs : List declared.Instr) (i : ℕ) (x : declared.Instr) → i < length xs → x ≡ get_or xs i x

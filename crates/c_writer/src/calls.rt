@@ -3,13 +3,15 @@ ghost use Rattle.std.specs.Prelude.{◌≡◌, ◌∷◌, [], IfOk, OnOk};
 ghost use Rattle.flow_base.specs.Lists.{items_of};
 ghost use Rattle.c_subset.specs.Lines.{Appends, expr_of, exprs_of};
 ghost use Rattle.c_functions.specs.Plans as spec;
-ghost use Rattle.c_expression_writer.specs.FileShapes.{shape_seen};
+ghost use Rattle.c_shape.specs.FileShapes.{shape_seen};
 ghost use Rattle.c_writer.specs.Calls.{own_arguments, send_arguments};
 ghost use Rattle.c_writer.specs.Pieces.{tested_result};
 
 use crate::pieces::{local, put_return};
-use c_expression_writer::{BAD, FileShape, number, put};
+use c_expression_writer::{BAD, put};
 use c_functions::WORD;
+use c_functions::function_offsets::{BARE_OFFSET, NOTED_OFFSET};
+use c_shape::{FileShape, number};
 use c_subset::{Arithmetic, CExpr, CType, Comparison, Line};
 use flow_base::{List, Memory};
 use std::alloc::Global;
@@ -168,12 +170,12 @@ pub(crate) fn on_function(shape: &FileShape<'_>) -> u32
 pub(crate) fn bare_function(shape: &FileShape<'_>) -> u32
     ensures { result ≡ spec.bare_function (shape_seen shape.now) }
 {
-    shape.procs + 1
+    shape.procs + BARE_OFFSET
 }
 
 /// The function that calls a noted procedure.
 pub(crate) fn noted_function(shape: &FileShape<'_>) -> u32
     ensures { result ≡ spec.noted_function (shape_seen shape.now) }
 {
-    shape.procs + 2
+    shape.procs + NOTED_OFFSET
 }

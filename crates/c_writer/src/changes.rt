@@ -7,13 +7,14 @@ ghost use Rattle.c_subset.specs.Trees as c;
 ghost use Rattle.c_functions.specs.Written.{keep_block};
 ghost use Rattle.c_functions.specs.Layout.{put_bit};
 ghost use Rattle.c_functions.specs.Plans.{layout, plan_c};
-ghost use Rattle.c_expression_writer.specs.FileShapes.{shape_seen};
+ghost use Rattle.c_shape.specs.FileShapes.{shape_seen};
 ghost use Rattle.c_writer.specs.Appending.{PlanAppends};
 ghost use Rattle.c_writer.specs.Changes.{child_type, clear_plan, mark_plan, set_plan, unset_plan};
 
 use crate::conditions::{bare_test, takes_test};
 use crate::pieces::put_store;
-use c_expression_writer::{FileShape, number, put};
+use c_expression_writer::put;
+use c_shape::{FileShape, number};
 use c_subset::{Bitwise, CExpr, CType, Line, Width};
 use flow_base::{List, Memory};
 use std::alloc::Global;

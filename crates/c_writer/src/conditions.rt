@@ -6,14 +6,15 @@ ghost use Rattle.code_language.specs.Code.{cond_of};
 ghost use Rattle.c_subset.specs.Lines.{expr_of};
 ghost use Rattle.c_functions.specs.Written as written;
 ghost use Rattle.c_functions.specs.Plans.{check_c};
-ghost use Rattle.c_expression_writer.specs.FileShapes.{shape_seen};
+ghost use Rattle.c_shape.specs.FileShapes.{shape_seen};
 ghost use Rattle.c_writer.specs.Appending.{TestAppends};
 ghost use Rattle.c_writer.specs.Fine.{IsFineTest};
 
 use crate::calls::{bare_function, on_function, put_ask};
 use crate::pieces::local;
 use active_config::Comp;
-use c_expression_writer::{FileShape, number, write_test};
+use c_expression_writer::write_test;
+use c_shape::{FileShape, number};
 use c_subset::{CExpr, CType, Comparison, Line};
 use code_language::Cond;
 use flow_base::{List, Memory};

@@ -3,16 +3,17 @@ ghost use Rattle.std.specs.Prelude.{◌≡◌, ◌≤◌, ◌<◌, ◌+◌, leng
 ghost use Rattle.code_language.specs.Code.{code_of, instrs_of, instructions};
 ghost use Rattle.code_language.specs.WellFormed.{IsCode};
 ghost use Rattle.c_subset.specs.Lines.{IsFunction};
+ghost use Rattle.c_functions.specs.declared.function_offsets.TheConstants.{OTHER_FUNCTIONS};
 ghost use Rattle.c_functions.specs.Writer.{plans_of};
 ghost use Rattle.c_functions.specs.Files.{procedure_c};
 ghost use Rattle.c_functions.specs.Starts.{file_of};
-ghost use Rattle.c_expression_writer.specs.FileShapes.{shape_seen};
+ghost use Rattle.c_shape.specs.FileShapes.{shape_seen};
 ghost use Rattle.c_writer.specs.Functions.{HasFunction, IsAt, IsShapeOf, later_functions};
 
 use crate::helpers::{Home, floor_function, home_function, noted_caller};
 use crate::procedures::procedure;
 use crate::starts::{init_function, react_function, start_function};
-use c_expression_writer::FileShape;
+use c_shape::FileShape;
 use c_subset::{Function, Width};
 use code_language::{Code, Instr};
 use flow_base::Memory;
@@ -67,7 +68,7 @@ fn later_function(
     place: u32,
 ) -> Result<Function, Memory>
     requires shape { IsShapeOf (shape_seen shape.now) (code_of code.now) }
-    requires place { place < 11 }
+    requires place { place < OTHER_FUNCTIONS }
     ensures { IfOk result (IsAt (later_functions (shape_seen shape.now)
         (code_of code.now).procedures.start (code_of code.now).procedures.react) place) }
 {
@@ -96,7 +97,7 @@ pub fn function(
     number: u32,
 ) -> Result<Function, Memory>
     requires shape { IsShapeOf (shape_seen shape.now) (code_of code.now) }
-    requires number { number < (shape_seen shape.now).procs + 11 }
+    requires number { number < (shape_seen shape.now).procs + OTHER_FUNCTIONS }
     ensures { IfOk result (HasFunction (file_of (code_of code.now) (shape_seen shape.now).tests
         (shape_seen shape.now).bounds (shape_seen shape.now).outputs (plans_of (code_of code.now)))
         number) }

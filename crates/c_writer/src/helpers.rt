@@ -7,14 +7,15 @@ ghost use Rattle.c_subset.specs.Lines.{Appends, IsFunction, expr_of, lines_in, l
 ghost use Rattle.c_subset.specs.Trees as c;
 ghost use Rattle.c_functions.specs.Files as files;
 ghost use Rattle.c_functions.specs.Plans as spec;
-ghost use Rattle.c_expression_writer.specs.FileShapes.{shape_seen};
+ghost use Rattle.c_shape.specs.FileShapes.{shape_seen};
 ghost use Rattle.c_writer.specs.Homes as homes;
 ghost use Rattle.c_writer.specs.Homes.{home_case, test_at};
 
 use crate::calls::five;
 use crate::pieces::{local, put_return};
-use c_expression_writer::{FileShape, number, put};
+use c_expression_writer::put;
 use c_functions::WORD;
+use c_shape::{FileShape, number};
 use c_subset::{Arithmetic, CExpr, CType, Case, Comparison, Division, Function, Line, Width};
 use flow_base::{List, Memory};
 use std::alloc::Global;

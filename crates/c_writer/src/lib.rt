@@ -20,6 +20,3 @@ mod procedures;
 mod starts;
 
 pub use functions::function;
-pub use helpers::{Home, floor_function, home_function, noted_caller};
-pub use procedures::procedure;
-pub use starts::{init_function, react_function, start_function};

@@ -4,11 +4,12 @@ ghost use Rattle.flow_base.specs.Lists.{items_of};
 ghost use Rattle.c_subset.specs.Lines.{Appends, expr_of, lines_in, lines_of};
 ghost use Rattle.c_subset.specs.Trees as c;
 ghost use Rattle.c_functions.specs.Plans as spec;
-ghost use Rattle.c_expression_writer.specs.FileShapes.{shape_seen};
+ghost use Rattle.c_shape.specs.FileShapes.{shape_seen};
 ghost use Rattle.c_writer.specs.Pieces.{tested_depth, tested_step};
 
-use c_expression_writer::{FileShape, number, put, write_fault};
+use c_expression_writer::{put, write_fault};
 use c_functions::WORD;
+use c_shape::{FileShape, number};
 use c_subset::{Arithmetic, CExpr, Comparison, Line};
 use flow_base::{Fault, List, Memory};
 use std::alloc::Global;

@@ -5,15 +5,16 @@ ghost use Rattle.c_subset.specs.Lines.{Appends, expr_of, lines_in, lines_of};
 ghost use Rattle.c_subset.specs.Trees as c;
 ghost use Rattle.c_functions.specs.Statements as plan;
 ghost use Rattle.c_functions.specs.Plans as spec;
-ghost use Rattle.c_expression_writer.specs.FileShapes.{shape_seen};
+ghost use Rattle.c_shape.specs.FileShapes.{shape_seen};
 ghost use Rattle.c_writer.specs.Appending.{PlanAppends};
 ghost use Rattle.c_writer.specs.Pieces as pieces;
 ghost use Rattle.c_writer.specs.Pieces.{note_arguments, note_at_cursor, raise_cursor, turn_before};
 
 use crate::calls::{bare_function, noted_function, put_ask, put_called, six};
 use crate::pieces::{local, put_pay, put_set};
-use c_expression_writer::{FileShape, number, put};
+use c_expression_writer::put;
 use c_functions::WORD;
+use c_shape::{FileShape, number};
 use c_subset::{Arithmetic, CExpr, CType, Comparison, Line};
 use flow_base::{List, Memory};
 use std::alloc::Global;

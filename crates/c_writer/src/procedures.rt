@@ -6,14 +6,14 @@ ghost use Rattle.c_subset.specs.Lines.{IsFunction, lines_in, lines_of};
 ghost use Rattle.c_functions.specs.Writer.{plan_of};
 ghost use Rattle.c_functions.specs.Files.{procedure_c};
 ghost use Rattle.c_functions.specs.Plans.{word};
-ghost use Rattle.c_expression_writer.specs.FileShapes.{shape_seen};
+ghost use Rattle.c_shape.specs.FileShapes.{shape_seen};
 ghost use Rattle.c_writer.specs.Parts.{CanBeWritten, StaysWithin};
 ghost use Rattle.c_writer.specs.Pieces.{with_cursor};
 
 use crate::parts::write_part;
 use crate::pieces::put_set;
-use c_expression_writer::{FileShape, number};
 use c_functions::WORD;
+use c_shape::{FileShape, number};
 use c_subset::{CType, Function, Line};
 use code_language::Instr;
 use flow_base::{List, Memory};

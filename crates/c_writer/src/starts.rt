@@ -7,7 +7,7 @@ ghost use Rattle.c_subset.specs.Lines.{Appends, IsFunction, expr_of, lines_in, l
 ghost use Rattle.c_subset.specs.Trees as c;
 ghost use Rattle.c_functions.specs.Plans as spec;
 ghost use Rattle.c_functions.specs.Starts as starts;
-ghost use Rattle.c_expression_writer.specs.FileShapes.{shape_seen};
+ghost use Rattle.c_shape.specs.FileShapes.{shape_seen};
 ghost use Rattle.c_writer.specs.Starting.{nothing_of, refused_where, value_of};
 ghost use Rattle.flow_base.specs.declared.chart_limits.TheConstants.{EVENT_LIMIT, VARIABLE_LIMIT};
 
@@ -16,10 +16,10 @@ use crate::helpers::one_word;
 use crate::pieces::{local, put_return, put_store};
 use actions::Var;
 use c_expression_writer::{
-    BAD, FileShape, NO_EVENT, all_inputs, is_begun, is_unknown, leading, leading_events, number,
-    put, tell_fault,
+    BAD, NO_EVENT, all_inputs, is_begun, is_unknown, leading, leading_events, put, tell_fault,
 };
 use c_functions::{WORD, field_type};
+use c_shape::{FileShape, number};
 use c_subset::{CExpr, CType, Comparison, Function, Line, Width};
 use flow_base::{List, Memory};
 use std::alloc::Global;

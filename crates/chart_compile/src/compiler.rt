@@ -10,8 +10,8 @@ use crate::tables::states;
 use actions::copy_names;
 use checked_chart::Chart;
 use code_language::{Code, RawCode};
-use continuation_compile::number;
 use flow_base::Memory;
+use list_compile::Numbering;
 use state_compile::procedures;
 use std::alloc::Global;
 
@@ -19,7 +19,7 @@ use std::alloc::Global;
 fn compile_raw(alloc: Global, chart: &Chart) -> Result<RawCode, Memory>
     ensures code { IfOk result (λ raw. code_of raw ≡ code_of_chart (chart_of chart.now)) }
 {
-    let numbering = number(alloc, chart)?;
+    let numbering = Numbering::make(alloc, chart)?;
     let procs = procedures(alloc, &numbering)?;
     let states = states(alloc, chart)?;
     let names = copy_names(alloc, chart.names())?;

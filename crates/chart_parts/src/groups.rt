@@ -11,9 +11,9 @@ ghost use Rattle.chart_parts.specs.Parts as spec;
 
 use crate::part::{Part, Toward};
 use checked_chart::{Chart, ListKind};
-use continuation_compile::below_count;
-use continuation_compile::reached::reached;
 use flow_base::{List, Memory};
+use list_compile::below_count;
+use list_compile::reached::reached;
 use std::alloc::Global;
 
 /// Appends a part for each of these junctions, reached from a list of a state.

@@ -3,7 +3,7 @@ use Rattle.std.proofs.Common.{◌≡◌, ◌≢◌, ℕ, ◌≤◌, ◌<◌, Lis
 use Rattle.std.proofs.Common.{refl, sym, ap, ◌∙◌, subst, arith, ⊎_elim, inl, inr}
 use Rattle.std.specs.Prelude.{◌⊎◌, ◌↔◌, slice_get}
 use Rattle.std.specs.List.{find}
-use Rattle.std.proofs.lemmas.Bool.{cases_lt}
+use Rattle.std.proofs.lemmas.Bool.{cases_lt, true_from_ne_false, false_from_ne_true}
 use Rattle.token_grammar.specs.declared.token.Span.{Span}
 use Rattle.active_config.specs.declared.comp.Comp.{Comp}
 use Rattle.active_config.specs.declared.comp.Comp.TheVariants.{Leaf, Or, And}
@@ -49,14 +49,6 @@ not_not_leaf : (w : Comp) → ((w ≢ Leaf) → ⊥) → w ≡ Leaf
 not_not_leaf Leaf h = refl
 not_not_leaf Or h = absurd (h (λ e. absurd cc))
 not_not_leaf And h = absurd (h (λ e. absurd cc))
-
-not_false : (b : Bool) → (b ≡ false → ⊥) → b ≡ true
-not_false true h = refl
-not_false false h = absurd (h refl)
-
-not_true : (b : Bool) → (b ≡ true → ⊥) → b ≡ false
-not_true true h = absurd (h refl)
-not_true false h = refl
 
 -- ---- homes are states
 
@@ -111,15 +103,15 @@ module _ (n : Net) (net : IsNet n) (none : (f : FaultAt) → StructureFault n f 
       or_where (home_of n.tree s Outer d) (home_within n.tree net.tree s d to.1)
       (λ ne. none _ (OfList s Outer list _ lt m (CrossesOuter a d l ne)))
   may_lead s Inner list a d lt m l =
-      let under = not_false (is_at_or_below n.tree d s)
+      let under = true_from_ne_false (is_at_or_below n.tree d s)
       (λ off. none _ (OfList s Inner list _ lt m (LeavesInner a d l off))) in
       (under, or_where s lt (λ ne. none _ (OfList s Inner list _ lt m (CrossesInner a d l under ne))))
   may_lead s Default list a d lt m l =
-      not_false (is_below n.tree d s) (λ off. none _ (OfList s Default list _ lt m (LeavesDefault a d l off)))
+      true_from_ne_false (is_below n.tree d s) (λ off. none _ (OfList s Default list _ lt m (LeavesDefault a d l off)))
 
   closed_last : (s : ℕ) (list : List Arrow) → s < state_count n.tree → Meets (links_of n) (list_of n s Default) list
       → (a : Arrow) → IsLast list a → a.«open» ≡ false
-  closed_last s list lt m a last = not_true a.«open» (λ on. none _ (OfList s Default list _ lt m (Open a last on)))
+  closed_last s list lt m a last = false_from_ne_true a.«open» (λ on. none _ (OfList s Default list _ lt m (Open a last on)))
 
   or_has_children : (s : ℕ) → s < state_count n.tree → comp_of n.tree s ≡ Or → children_of n.tree s ≡ [] → ⊥
   or_has_children s lt e f = absurd (let g = (net.tree.leaves s lt).1 f in cc)

@@ -5,7 +5,6 @@ ghost use Rattle.active_config.specs.Tree.{state_count};
 ghost use Rattle.chart_tree.specs.declared.fault.FormKind.{FormKind};
 ghost use Rattle.chart_tree.specs.declared.first.FaultAt.{FaultAt};
 ghost use Rattle.chart_tree.specs.First.{at_place, IsOne, Passed};
-ghost use Rattle.checked_chart.specs.Chart as charts;
 ghost use Rattle.checked_chart.specs.Reached.{Meets};
 ghost use Rattle.chart_structure.specs.declared.net.Arrow.{Arrow};
 ghost use Rattle.chart_structure.specs.Net as spec;
@@ -18,16 +17,6 @@ use crate::net::{Arrow, Net};
 use active_config::{Comp, Shape};
 use chart_tree::{FaultAt, FormKind};
 use checked_chart::{Dest, ListKind, outer_home};
-
-/// Whether a composition word is an OR.
-pub fn is_or(word: Comp) -> bool
-    ensures { result ≡ charts.is_or word }
-{
-    match word {
-        Comp::Or => true,
-        Comp::Leaf | Comp::And => false,
-    }
-}
 
 /// Whether a state is another one or below it.
 #[tactic(auto, unfolding(active_config::specs::Tree::is_at_or_below))]
@@ -43,7 +32,7 @@ fn is_at_or_below(shape: &Shape, state: u32, above: u32) -> bool
 fn crossing(word: Comp) -> Option<FormKind>
     ensures { result ≡ tests.crossing word }
 {
-    if is_or(word) {
+    if word.is_or() {
         None
     } else {
         Some(FormKind::CrossesRegions)

@@ -21,4 +21,4 @@ pub use laws::{
     faultless_nets_are_valid, valid_nets_are_faultless, valid_nets_need_no_places,
 };
 pub use net::{Arrow, JunctionNode, Net, Node};
-pub use pass::{Structure, find_faults, first_fault};
+pub use pass::{Structure, first_fault};

@@ -33,7 +33,7 @@ pub struct Structure {
 /// number for each junction, and its time grows with the pairs times the depth of the tree.
 ///
 /// Fails only where memory does.
-pub fn find_faults(alloc: Global, net: &Net<'_>) -> Result<Structure, AllocError>
+fn find_faults(alloc: Global, net: &Net<'_>) -> Result<Structure, AllocError>
     requires { state_count net.now.tree < state_bound }
     ensures first { IfOk result (λ r. IsFirst (StructureFault net.now) r.fault) }
     ensures pairs { IfOk result (λ r. CountsPairs net.now r.pairs) }

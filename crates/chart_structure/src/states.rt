@@ -13,7 +13,6 @@ ghost use Rattle.chart_structure.specs.Net as spec;
 ghost use Rattle.chart_structure.specs.Structure.{StateFault, StructureFault};
 ghost use Rattle.chart_structure.specs.Tests as tests;
 
-use crate::dests::is_or;
 use crate::kept::with_fault;
 use crate::lists::is_empty;
 use crate::net::Net;
@@ -41,7 +40,7 @@ fn comp_fault(root: bool, word: Comp, childless: bool, listless: bool) -> Option
         } else {
             None
         }
-    } else if is_or(word) && listless {
+    } else if word.is_or() && listless {
         Some(FormKind::DefaultMissing)
     } else {
         None
@@ -92,7 +91,7 @@ fn with_unwanted(net: &Net<'_>, state: u32, first: Option<FaultAt>) -> Option<Fa
         → Passed result (at_place kinds.DefaultUnwanted a.at) }
 {
     let list = net.list(state, ListKind::Default);
-    if is_or(net.word(state)) || is_empty(list) {
+    if net.word(state).is_or() || is_empty(list) {
         return first;
     }
     let kind = FormKind::DefaultUnwanted;
@@ -118,7 +117,7 @@ fn with_history(net: &Net<'_>, state: u32, first: Option<FaultAt>) -> Option<Fau
     match net.history(state) {
         None => first,
         Some(at) => {
-            if is_or(net.word(state)) {
+            if net.word(state).is_or() {
                 first
             } else {
                 let kind = FormKind::HistoryUnwanted;

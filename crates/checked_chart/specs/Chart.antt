@@ -1,9 +1,7 @@
 -- A chart: a tree of states, what it declares, what each state does, and the lists of junctions.
-use Rattle.std.specs.Prelude.{◌&&◌, ℕ, List, [], Option, Bool, true, false, length, slice_index_or, if◌then◌else◌}
+use Rattle.std.specs.Prelude.{◌&&◌, ℕ, List, [], Option, Bool, false, length, slice_index_or, if◌then◌else◌}
 use Rattle.std.specs.Option.{option_map_or}
-use Rattle.active_config.specs.declared.comp.Comp.{Comp}
-use Rattle.active_config.specs.declared.comp.Comp.TheVariants.{Leaf, Or, And}
-use Rattle.active_config.specs.Tree.{Tree, comp_of, children_of, parent_of}
+use Rattle.active_config.specs.Tree.{Tree, is_or, comp_of, children_of, parent_of}
 use Rattle.actions.specs.Exprs.{Expr, Stmt}
 use Rattle.actions.specs.Names.{Names}
 use Rattle.actions.specs.World.{Life, On, Bare}
@@ -83,12 +81,6 @@ life_of s Inner = On s
 life_of s Default = Bare s
 
 -- ---- history
-
--- whether a composition is an OR
-abbrev pub is_or : Comp → Bool
-is_or Leaf = false
-is_or Or = true
-is_or And = false
 
 -- an OR whose node says so has history
 unfoldable pub has_history : Chart → ℕ → Bool

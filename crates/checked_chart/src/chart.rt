@@ -222,6 +222,30 @@ impl Chart {
         self.parts(state).history
     }
 
+    /// Whether a state has history: it is an OR that remembers.
+    #[tactic(auto, unfolding(crate::specs::Chart::has_history))]
+    pub fn has_history(&self, state: u32) -> bool
+        requires { state < state_count (chart_of self.now).tree }
+        ensures { result ≡ spec.has_history (chart_of self.now) state }
+    {
+        match self.comp(state) {
+            Comp::Leaf | Comp::And => false,
+            Comp::Or => self.history(state),
+        }
+    }
+
+    /// Whether the parent of a state has history.
+    #[tactic(auto, unfolding(crate::specs::Chart::is_remembered))]
+    pub fn is_remembered(&self, state: u32) -> bool
+        requires { state < state_count (chart_of self.now).tree }
+        ensures { result ≡ spec.is_remembered (chart_of self.now) state }
+    {
+        match self.parent(state) {
+            None => false,
+            Some(parent) => self.has_history(parent),
+        }
+    }
+
     /// How many junctions there are: at most 4,096.
     #[tactic(auto, using(crate::proofs::PartsLemmas::junctions_few), unfolding(crate::specs::Kept::chart_of, crate::specs::Chart::junction_count))]
     pub fn junctions(&self) -> u32

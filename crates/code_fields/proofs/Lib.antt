@@ -1,4 +1,5 @@
 pub mod CutLemmas
+pub mod LineCuts
 pub mod NumberLemmas
 pub mod BehindLemmas
 pub mod WordLemmas

@@ -1,4 +1,5 @@
 pub mod Cuts
+pub mod Lines
 pub mod Spelling
 pub mod Scales
 pub mod Fields

@@ -11,9 +11,8 @@ use crate::kinds::{event_kind_of, mode_of, var_kind_of};
 use crate::numbers::{behind, numeral};
 use crate::scales::sort_of;
 use actions::{EventDecl, EventKind, Sort, Var, VarKind};
-use chart_lexer::is_name;
+use chart_lexer::{is_name, name_text};
 use fixed_point::Mode;
-use flow_base::Text;
 use std::alloc::{AllocError, Global};
 
 /// The first value beyond those that a line may have.
@@ -204,15 +203,4 @@ fn negative(magnitude: u128) -> Option<i128>
 {
     let less = magnitude.checked_sub(1)?;
     Some(-1 - less as i128)
-}
-
-/// A copy of the bytes of a name, as a text.
-pub fn name_text(alloc: Global, name: &[u8]) -> Result<Text, AllocError>
-    requires { IsTrue (is_name name.now) }
-    ensures { IfOk result (λ text. text ≡ name.now) }
-{
-    match str::from_utf8(name) {
-        Ok(text) => Ok(Text::of(String::from_str(alloc, text)?)),
-        Err(_) => unreachable!(),
-    }
 }

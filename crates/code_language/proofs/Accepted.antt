@@ -85,11 +85,6 @@ none_over limit kind p (n ∷ ns) h =
 
 -- ---- what stays where procedures are appended
 
--- two tests that hold together
-pub both_true : (a b : Bool) → a ≡ true → b ≡ true → (a && b) ≡ true
-both_true true b h k = k
-both_true false b h k = cc
-
 -- the first of two tests that hold together
 pub first_true : (a b : Bool) → (a && b) ≡ true → a ≡ true
 first_true true b h = refl

@@ -3,6 +3,7 @@ use Rattle.std.proofs.Common.{◌≡◌, ℕ, zero, suc, ◌<◌, ℤ, true, fal
 use Rattle.std.proofs.Common.{Option, Some, None, Result, Ok, Err, IfOk, refl, sym, ap, ◌∙◌, subst, arith}
 use Rattle.std.specs.Prelude.{slice_get}
 use Rattle.std.specs.Option.{option_map_or}
+use Rattle.std.proofs.lemmas.Bool.{and_parts}
 use Rattle.flow_base.specs.declared.bounds.Bounds.{Bounds}
 use Rattle.flow_base.specs.declared.fault.Fault.{Fault}
 use Rattle.fixed_point.specs.declared.fitting.Overflow.{Overflow}
@@ -28,7 +29,6 @@ use Rattle.code_language.specs.WellFormed.{Known, known_of, is_plain, is_flag, i
 use Rattle.code_language.specs.WellFormed.{instr_typed}
 use Rattle.code_language.specs.Moments.{IsWorld, CanAssign, IsFlagIn}
 use Rattle.code_language.proofs.ExprFaults.{Gives, Any, value_gives}
-use Rattle.code_language.proofs.Sound.{both_true}
 use Rattle.code_language.proofs.ValueLemmas.{value_has_sort}
 
 -- what the type of an assignment says
@@ -40,11 +40,11 @@ pub record IsTyped (n : Names) (v : ℕ) (e : Expr) : Type 0 where
   pub takes : assignment_fault decl.sort sort ≡ None
 
 -- an assignment of well-formed code has such a type
-assign_typed : (K : Known) (v : ℕ) (e : Expr) → instr_typed K (Assign v e) ≡ true → IsTyped K.names v e
+pub assign_typed : (K : Known) (v : ℕ) (e : Expr) → instr_typed K (Assign v e) ≡ true → IsTyped K.names v e
 unfolding instr_typed
 assign_typed K v e h =
     at (slice_get K.names.vars v) refl
-    (both_true (is_plain e)
+    (and_parts (is_plain e)
     (option_map_or (λ decl. takes decl (sort_of (scope_of K.names) e)) (slice_get K.names.vars v) false) h).1
   where
     none_of : (o : Option ExprFault) → is_fine o ≡ true → o ≡ None
@@ -59,7 +59,7 @@ assign_typed K v e h =
       sort = sort;
       sorted = q;
       takes = none_of (assignment_fault decl.sort sort)
-          (both_true (is_assigned decl.kind) (is_fine (assignment_fault decl.sort sort)) h).1;
+          (and_parts (is_assigned decl.kind) (is_fine (assignment_fault decl.sort sort)) h).1;
     }
     given decl is (Err fault) q h = absurd cc
 
@@ -69,11 +69,11 @@ assign_typed K v e h =
     at (Some decl) is h = given decl is (sort_of (scope_of K.names) e) refl h
 
 -- a test is a flag
-test_typed : (K : Known) (j : ℕ) (e : Expr) → instr_typed K (Unless j (Test e)) ≡ true
+pub test_typed : (K : Known) (j : ℕ) (e : Expr) → instr_typed K (Unless j (Test e)) ≡ true
     → sort_of (scope_of K.names) e ≡ Ok sorts.Flag
 unfolding instr_typed cond_typed
 test_typed K j e h =
-    at (sort_of (scope_of K.names) e) (both_true (is_plain e) (is_flag (sort_of (scope_of K.names) e)) h).1
+    at (sort_of (scope_of K.names) e) (and_parts (is_plain e) (is_flag (sort_of (scope_of K.names) e)) h).1
   where
     at : (s : Sorted) → is_flag s ≡ true → s ≡ Ok sorts.Flag
     at (Ok sorts.Flag) h = refl

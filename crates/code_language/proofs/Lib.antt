@@ -3,6 +3,7 @@ pub mod Measures
 pub mod Reckoned
 pub mod Greatest
 pub mod ListLemmas
+pub mod Tails
 pub mod FaultLemmas
 pub mod MeasureLemmas
 pub mod TableLemmas

@@ -5,7 +5,7 @@ use Rattle.std.proofs.Common.{append_assoc, length-append}
 use Rattle.std.specs.Prelude.{◌==◌, nat_eq, IsTrue, IsSomeAnd, slice_index_or, bytes_eq}
 use Rattle.std.specs.List.{filter, list_any, range_with_len, AllByRecursion}
 use Rattle.std.specs.Option.{option_eq, option_map_or}
-use Rattle.std.proofs.lemmas.Bool.{and_parts}
+use Rattle.std.proofs.lemmas.Bool.{and_parts, not-true, not_from_false, and_from}
 use Rattle.std.proofs.lemmas.Bool.Decides.{nat_tests}
 use Rattle.std.proofs.lemmas.List.{length-map, map-append}
 use Rattle.flow_base.specs.Names.{index_of, after, are_distinct}
@@ -63,21 +63,6 @@ twin_is x q (y ∷ later) e =
 
 -- ---- no twins, so names under each state differ
 
--- what is not true
-not_false : (b : Bool) → not b ≡ true → b ≡ false
-not_false true h = absurd (cc h)
-not_false false h = refl
-
--- and back
-not_true : (b : Bool) → b ≡ false → not b ≡ true
-not_true true h = absurd (cc h)
-not_true false h = refl
-
--- two tests that hold together
-both_true : (a b : Bool) → a ≡ true → b ≡ true → (a && b) ≡ true
-both_true true b h k = k
-both_true false b h k = absurd (cc h)
-
 -- numbers that pass the test are the same
 is_it : (p q : ℕ) → (p == q) ≡ true → p ≡ q
 is_it p q h = grind (arith, nat_tests)
@@ -96,7 +81,7 @@ distinct_by : (s : ℕ) (x : RawState) (later : List RawState) (under : Bool) �
     → has_twin x later ≡ false → are_distinct (names_under s later) ≡ true
     → are_distinct (cond under (x.name ∷ names_under s later) (names_under s later)) ≡ true
 distinct_by s x later true u t d =
-    both_true _ _ (not_true _ (twin_is x s later (under_parent s x.parent u) ∙ t)) d
+    and_from _ _ (not_from_false _ (twin_is x s later (under_parent s x.parent u) ∙ t)) d
 distinct_by s x later false u t d = d
 
 -- so names under each state differ
@@ -104,7 +89,7 @@ distinct_under : (s : ℕ) (xs : List RawState) → has_no_twins xs ≡ true →
 distinct_under s [] h = refl
 distinct_under s (x ∷ later) h =
     let both = and_parts (not (has_twin x later)) _ h in
-    distinct_by s x later (is_under s x.parent) refl (not_false _ both.0) (distinct_under s later both.1)
+    distinct_by s x later (is_under s x.parent) refl (not-true _ both.0) (distinct_under s later both.1)
 
 -- ---- and back
 
@@ -120,7 +105,7 @@ no_twin_at n x later (Some q) e h d =
     let under : is_under q x.parent ≡ true = ap (is_under q) e ∙ self q in
     let here : are_distinct (x.name ∷ names_under q later) ≡ true =
     ap (λ b. are_distinct (cond b (x.name ∷ names_under q later) (names_under q later))) (sym under) ∙ d q h in
-    sym (twin_is x q later e) ∙ not_false _ (and_parts (not (is_some (index_of x.name (names_under q later)))) _ here).0
+    sym (twin_is x q later e) ∙ not-true _ (and_parts (not (is_some (index_of x.name (names_under q later)))) _ here).0
 
 -- what is distinct stays so without the first
 distinct_rest : (under : Bool) (name : List ℕ) (ns : List (List ℕ)) → are_distinct (cond under (name ∷ ns) ns) ≡ true
@@ -133,7 +118,7 @@ no_twins_of : (n : ℕ) (xs : List RawState) → HaveParents n xs
     → ((s : ℕ) → s < n → are_distinct (names_under s xs) ≡ true) → has_no_twins xs ≡ true
 no_twins_of n [] h d = refl
 no_twins_of n (x ∷ later) h d =
-    both_true _ _ (not_true _ (no_twin_at n x later x.parent refl h.0 d))
+    and_from _ _ (not_from_false _ (no_twin_at n x later x.parent refl h.0 d))
     (no_twins_of n later h.1 (λ s lt. distinct_rest (is_under s x.parent) x.name (names_under s later) (d s lt)))
 
 -- the first state has no parent, so it has no twin among states that have one
@@ -243,5 +228,5 @@ no_twins (x ∷ rest) tree h =
     some_below (parent_of t (suc s)) (λ p. IsTrue (is_at_or_below t s p)) n some (λ p e.
     let low = parent_below t (suc s) p tree (omega arith) e in omega arith)) in
     let distinct = λ (s : ℕ) (lt : s < n). sym (ap are_distinct (names_of_children (x ∷ rest) s)) ∙ h s lt in
-    both_true _ _ (not_true _ (no_twin_first n x rest tree.pre_order.root below))
+    and_from _ _ (not_from_false _ (no_twin_first n x rest tree.pre_order.root below))
     (no_twins_of n rest below (λ s lt. distinct_rest (is_under s x.parent) x.name (names_under s rest) (distinct s lt)))

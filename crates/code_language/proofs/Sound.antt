@@ -2,7 +2,7 @@
 use Rattle.std.proofs.Common.{◌≡◌, ℕ, zero, suc, ◌+◌, ◌<◌, Bool, true, false, List, [], ◌∷◌, length, Option, Some}
 use Rattle.std.proofs.Common.{None, refl, sym, ap, ◌∙◌, subst, arith}
 use Rattle.std.specs.Prelude.{◌&&◌, nat_lt, slice_get, slice_index_or}
-use Rattle.std.proofs.lemmas.Bool.{ltb-true}
+use Rattle.std.proofs.lemmas.Bool.{ltb-true, and_parts}
 use Rattle.code_language.specs.declared.fault.CodeFault.{CodeFault}
 use Rattle.code_language.specs.declared.fault.CodeKind.{CodeKind}
 use Rattle.code_language.specs.declared.fault.CodeKind.TheVariants as kinds
@@ -80,11 +80,6 @@ procs_sound K p (is ∷ rest) e =
       procs_sound K (suc p) rest (ap (λ (m : ℕ). procs_fault K m rest) n ∙ parts.1),
     )
 
--- both tests of a conjunction that holds hold
-pub both_true : (a b : Bool) → (a && b) ≡ true → (a ≡ true) × (b ≡ true)
-both_true true b e = (refl, e)
-both_true false b e = absurd cc
-
 -- ---- well-formed code
 
 -- the parts that a run relies on
@@ -100,7 +95,7 @@ code_parts k is =
     let starts = both_none (unless (starts_known k.procedures) kinds.BadNumber 0 0) _ is.sound in
     let procs = both_none (procs_fault (known_of k) 0 k.procedures.procs) _ starts.1 in
     let count = length k.procedures.procs in
-    let there = both_true (nat_lt k.procedures.start count) (nat_lt k.procedures.react count)
+    let there = and_parts (nat_lt k.procedures.start count) (nat_lt k.procedures.react count)
     (test_holds (starts_known k.procedures) kinds.BadNumber 0 0 starts.0) in
     record {
       procs = procs_sound (known_of k) 0 k.procedures.procs procs.0;

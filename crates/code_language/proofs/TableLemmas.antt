@@ -14,9 +14,9 @@ use Rattle.fixed_point.specs.declared.scale.Scale.{Scale}
 use Rattle.active_config.specs.declared.comp.Comp.{Comp}
 use Rattle.active_config.specs.declared.comp.Comp.TheVariants.{Leaf}
 use Rattle.active_config.specs.Tree.{Tree, IsTree, tree_of, parents_of, parent_of, comp_of, state_count, ancestors}
+use Rattle.active_config.specs.Tree.{is_or}
 use Rattle.active_config.proofs.PathLemmas.{parent_lt, ancestors-step, ancestors-root}
 use Rattle.actions.proofs.SizeLemmas.{floored_at_own}
-use Rattle.checked_chart.specs.Chart.{is_or}
 use Rattle.code_language.specs.declared.code.RawState.{RawState}
 use Rattle.code_language.specs.Acceptance.{has_parents, parent_or_0, comp_written}
 use Rattle.code_language.specs.Code.{tree_of_states}

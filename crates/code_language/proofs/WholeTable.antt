@@ -3,7 +3,7 @@ use Rattle.std.proofs.Common.{◌≡◌, ℕ, ◌≤◌, ◌&&◌, Bool, true, f
 use Rattle.std.proofs.Common.{map, Option, is_some, refl, sym, ap, ◌∙◌, subst, arith}
 use Rattle.std.specs.Prelude.{◌↔◌, IsTrue, IfOk, Result, Ok, Err, nat_le}
 use Rattle.std.specs.List.{list_all, AllByRecursion}
-use Rattle.std.proofs.lemmas.Bool.{and_parts}
+use Rattle.std.proofs.lemmas.Bool.{and_parts, and_from}
 use Rattle.std.proofs.lemmas.Bool.Decides.{nat_tests}
 use Rattle.fixed_point.specs.declared.fitting.Mode.{Mode}
 use Rattle.fixed_point.specs.declared.fitting.Mode.TheVariants.{Saturate, Wrap, Error}
@@ -72,11 +72,6 @@ le_of a b h = grind (arith, nat_tests)
 le_test : (a b : ℕ) → a ≤ b → nat_le a b ≡ true
 le_test a b h = grind (arith, nat_tests)
 
--- two tests that hold together
-both_true : (a b : Bool) → a ≡ true → b ≡ true → (a && b) ≡ true
-both_true true b h k = k
-both_true false b h k = absurd (cc h)
-
 -- three tests that all hold
 and_assoc : (a b c : Bool) → (a && (b && c)) ≡ ((a && b) && c)
 and_assoc true b c = refl
@@ -117,7 +112,7 @@ values_of : (vars : List Var) → AllByRecursion (λ v. IsTrue (is_mantissa_of v
     → AllByRecursion HasFlagMode vars → list_all has_value vars ≡ true
 values_of [] h k = refl
 values_of (v ∷ vs) h k =
-    both_true _ _ (both_true _ _ h.0 (mode_of v.sort v.mode k.0)) (values_of vs h.1 k.1)
+    and_from _ _ (and_from _ _ h.0 (mode_of v.sort v.mode k.0)) (values_of vs h.1 k.1)
 
 -- where the rest is declared, names differ and the states are right, the whole is a table
 pub table_is : (raw : RawCode) → is_declared raw ≡ true
@@ -145,7 +140,7 @@ table_is raw h distinct are =
       names = record {
         states = list_all-map is_name (λ (s : RawState). s.name) states ∙ n1.0;
         declared = all_append (map (λ (v : Var). v.name) vars) (map (λ (e : EventDecl). e.name) events)
-            ∙ both_true _ _ (list_all-map is_name (λ (v : Var). v.name) vars ∙ n2.0)
+            ∙ and_from _ _ (list_all-map is_name (λ (v : Var). v.name) vars ∙ n2.0)
             (list_all-map is_name (λ (e : EventDecl). e.name) events ∙ n2.1);
         distinct = distinct;
         siblings = are.siblings;
@@ -165,9 +160,9 @@ table_declared raw h =
     let few : length states ≤ STATE_LIMIT = omega (arith, count, in_limit) in
     let names = and_parts (list_all is_name (map (λ (v : Var). v.name) vars)) _
     (sym (all_append (map (λ (v : Var). v.name) vars) (map (λ (e : EventDecl). e.name) events)) ∙ h.names.declared) in
-    both_true _ _ (both_true _ _ (le_test _ _ few) (both_true _ _ (le_test _ _ h.vars) (le_test _ _ h.events)))
-    (both_true _ _ (both_true _ _ (sym (list_all-map is_name (λ (s : RawState). s.name) states) ∙ h.names.states)
-    (both_true _ _ (sym (list_all-map is_name (λ (v : Var). v.name) vars) ∙ names.0)
+    and_from _ _ (and_from _ _ (le_test _ _ few) (and_from _ _ (le_test _ _ h.vars) (le_test _ _ h.events)))
+    (and_from _ _ (and_from _ _ (sym (list_all-map is_name (λ (s : RawState). s.name) states) ∙ h.names.states)
+    (and_from _ _ (sym (list_all-map is_name (λ (v : Var). v.name) vars) ∙ names.0)
     (sym (list_all-map is_name (λ (e : EventDecl). e.name) events) ∙ names.1)))
     (values_of vars h.inits h.flags))
 

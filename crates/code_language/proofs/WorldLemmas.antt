@@ -8,13 +8,12 @@ use Rattle.flow_base.specs.declared.bounds.Bounds.{Bounds}
 use Rattle.flow_base.specs.declared.fault.Fault.TheVariants as run_faults
 use Rattle.active_config.specs.declared.comp.Comp.{Comp}
 use Rattle.active_config.specs.declared.comp.Comp.TheVariants.{Leaf, Or, And}
-use Rattle.active_config.specs.Tree.{parent_of, comp_of}
+use Rattle.active_config.specs.Tree.{parent_of, comp_of, is_or}
 use Rattle.active_config.specs.Marks.{Configuration, IsConsistent, can_mark, is_bare}
 use Rattle.active_config.proofs.MarksLemmas.{marked, cleared, remembered}
 use Rattle.actions.specs.World.{World, emitted}
 use Rattle.actions.proofs.DataLemmas.{all_push}
 use Rattle.actions.specs.Changes.{paid_in, set_mark, mark_in, clear_in, keep_in}
-use Rattle.checked_chart.specs.Chart.{is_or}
 use Rattle.code_language.specs.Code.{Code}
 use Rattle.code_language.specs.Instrs.{Keep}
 use Rattle.code_language.specs.WellFormed.{known_of}

@@ -7,7 +7,7 @@ use Rattle.flow_base.specs.declared.chart_limits.TheConstants.{OPERATOR_LIMIT}
 use Rattle.fixed_point.specs.declared.num.Num.{Num}
 use Rattle.fixed_point.specs.declared.rounding.TheConstants.{READ_LIMIT}
 use Rattle.fixed_point.specs.declared.scale.TheConstants.{PLACES_LIMIT}
-use Rattle.active_config.specs.Tree.{Tree, state_count, parent_of, comp_of}
+use Rattle.active_config.specs.Tree.{Tree, state_count, parent_of, comp_of, is_or}
 use Rattle.actions.specs.declared.names.EventDecl.{EventDecl}
 use Rattle.actions.specs.declared.names.EventKind.{EventKind}
 use Rattle.actions.specs.declared.names.EventKind.TheVariants as event_kinds
@@ -19,7 +19,6 @@ use Rattle.actions.specs.declared.sort.ExprSort.TheVariants as sorts
 use Rattle.actions.specs.Exprs.{Expr, Lit, Flag, Read, Active, Neg, Not, Bin}
 use Rattle.actions.specs.Names.{Names}
 use Rattle.actions.specs.Sorts.{Sorted, scope_of, sort_of, assignment_fault}
-use Rattle.checked_chart.specs.Chart.{is_or}
 use Rattle.checked_chart.specs.Expressions.{operator_count}
 use Rattle.code_language.specs.declared.fault.CodeEnd.{CodeEnd}
 use Rattle.code_language.specs.declared.fault.CodeEnd.TheVariants as ends

@@ -2,8 +2,7 @@
 ghost use Rattle.std.specs.Prelude.{◌≡◌, ◌≤◌, nat_lt, false, List as Items, length};
 ghost use Rattle.std.specs.List.{list_any};
 ghost use Rattle.flow_base.specs.Lists.{items_of};
-ghost use Rattle.active_config.specs.Tree.{parent_of, comp_of};
-ghost use Rattle.checked_chart.specs.Chart.{is_or};
+ghost use Rattle.active_config.specs.Tree.{parent_of, comp_of, is_or};
 ghost use Rattle.code_language.specs.Code.{code_of, cond_of, instr_of, instrs_of};
 ghost use Rattle.code_language.specs.Instrs as code;
 ghost use Rattle.code_language.specs.WellFormed as spec;
@@ -14,7 +13,6 @@ use crate::instr::{Cond, Instr};
 use crate::limits::{INSTR_LIMIT, PROC_LIMIT};
 use crate::naming::instr_known;
 use crate::typing::instr_typed;
-use active_config::Comp;
 use flow_base::List;
 
 /// A fault at a place.
@@ -124,23 +122,13 @@ fn parent_of(raw: &RawCode, state: u32) -> Option<u32>
     raw.states.items().get(state as usize)?.parent
 }
 
-/// Whether states that are composed so are ORs.
-fn is_or_comp(comp: Comp) -> bool
-    ensures { result ≡ is_or comp }
-{
-    match comp {
-        Comp::Or => true,
-        Comp::Leaf | Comp::And => false,
-    }
-}
-
 /// Whether a state is an OR.
 #[tactic(auto, unfolding(active_config::specs::Tree::comp_of))]
 fn is_or(raw: &RawCode, state: u32) -> bool
     ensures { result ≡ is_or (comp_of (code_of raw.now).tree state) }
 {
     match raw.states.items().get(state as usize) {
-        Some(state) => is_or_comp(state.comp),
+        Some(state) => state.comp.is_or(),
         None => false,
     }
 }

@@ -5,7 +5,8 @@ ghost use Rattle.code_lines.specs.Fields as spec;
 ghost use Rattle.code_lines.specs.Views as views;
 
 use active_config::Comp;
-use code_fields::{behind, comp_of, cut_at, name_of, name_text, number_of};
+use chart_lexer::name_text;
+use code_fields::{behind, comp_of, cut_at, name_of, number_of};
 use code_language::RawState;
 use std::alloc::{AllocError, Global};
 

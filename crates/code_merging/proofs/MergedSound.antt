@@ -2,14 +2,14 @@
 use Rattle.std.proofs.Common.{◌≡◌, ◌≤◌, ◌<◌, ℕ, ◌+◌, true, List, [], ◌∷◌, length, Option, Some, None}
 use Rattle.std.proofs.Common.{refl, sym, ap, subst, arith}
 use Rattle.std.specs.Prelude.{◌&&◌}
-use Rattle.std.proofs.lemmas.Bool.{lt-ltb, ltb-true}
+use Rattle.std.proofs.lemmas.Bool.{lt-ltb, ltb-true, and_from}
 use Rattle.std.proofs.lemmas.List.{length-map}
 use Rattle.code_language.specs.Instrs.{Instr, Assign, Emit, Mark, Clear, Keep, Unless, Skip, Call, Visit, Send}
 use Rattle.code_language.specs.Instrs.{SendTo, Play, Home, Begin, Pass, Ret}
 use Rattle.code_language.specs.Sound.{IsSound, AreSound, EndsInRet, IsProc}
 use Rattle.code_language.specs.WellFormed.{Known, is_proc, is_state, is_event, note_known, instr_known}
 use Rattle.code_language.specs.WellFormed.{skips_within, calls_lower, instr_typed, is_ret, instr_keeps}
-use Rattle.code_language.proofs.Accepted.{both_true, first_true, second_true}
+use Rattle.code_language.proofs.Accepted.{first_true, second_true}
 use Rattle.code_shrink.specs.Follows.{note_by, renamed}
 use Rattle.code_merging.specs.Merged.{under}
 
@@ -28,7 +28,7 @@ module _ (K : Known) (p : ℕ) (m : ℕ → ℕ) (lower : (q : ℕ) → q < K.pr
   call_there : (q : ℕ) (tag : Option ℕ) → (is_proc K q && note_known K tag) ≡ true
       → (is_proc K (m q) && note_known K (note_by m tag)) ≡ true
   call_there q tag h =
-      both_true (is_proc K (m q)) (note_known K (note_by m tag))
+      and_from (is_proc K (m q)) (note_known K (note_by m tag))
       (there q (first_true (is_proc K q) (note_known K tag) h))
       (note_there tag (second_true (is_proc K q) (note_known K tag) h))
 
@@ -61,9 +61,9 @@ module _ (K : Known) (p : ℕ) (m : ℕ → ℕ) (lower : (q : ℕ) → q < K.pr
       let rest = second_true (is_event K e) (is_state K s && is_proc K q) h.known in
       record {
         known =
-            both_true (is_event K e) (is_state K s && is_proc K (m q))
+            and_from (is_event K e) (is_state K s && is_proc K (m q))
             (first_true (is_event K e) (is_state K s && is_proc K q) h.known)
-            (both_true (is_state K s) (is_proc K (m q)) (first_true (is_state K s) (is_proc K q) rest)
+            (and_from (is_state K s) (is_proc K (m q)) (first_true (is_state K s) (is_proc K q) rest)
             (there q (second_true (is_state K s) (is_proc K q) rest)));
         within = refl;
         lower = refl;

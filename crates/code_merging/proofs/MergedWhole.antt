@@ -3,7 +3,7 @@ use Rattle.std.proofs.Common.{◌≡◌, ◌≤◌, ◌<◌, ℕ, zero, suc, ◌
 use Rattle.std.proofs.Common.{Some, refl, sym, ap, ◌∙◌, subst, arith}
 use Rattle.std.specs.Prelude.{slice_get, slice_index, slice_index_or, nat_lt, min}
 use Rattle.std.specs.List.{list_any}
-use Rattle.std.proofs.lemmas.Bool.{lt-ltb, ltb-true}
+use Rattle.std.proofs.lemmas.Bool.{lt-ltb, ltb-true, and_from}
 use Rattle.std.proofs.lemmas.List.{length-map}
 use Rattle.flow_base.specs.Lists.{items_of}
 use Rattle.code_language.specs.declared.code.RawCode.{RawCode}
@@ -15,7 +15,7 @@ use Rattle.code_language.specs.WellFormed.{known_of, with_procs, too_many, start
 use Rattle.code_language.specs.WellFormed.{first_over, unless, procs_fault}
 use Rattle.code_language.specs.declared.fault.CodeKind.TheVariants as kinds
 use Rattle.code_language.specs.declared.limits.TheConstants.{PROC_LIMIT, INSTR_LIMIT, HEIGHT_LIMIT, WORK_LIMIT}
-use Rattle.code_language.proofs.Accepted.{no_procs_fault, none_over, both_true, first_none, holds_none}
+use Rattle.code_language.proofs.Accepted.{no_procs_fault, none_over, first_none, holds_none}
 use Rattle.code_language.proofs.ListLemmas.{or_false}
 use Rattle.code_language.proofs.Measures.{height_measure, work_measure}
 use Rattle.code_language.proofs.Reckoned.{IsMeasure, reckon_is, reckon_bounded}
@@ -24,8 +24,9 @@ use Rattle.code_shrink.specs.Follows.{renamed, Follows, HasCopy}
 use Rattle.code_shrink.specs.Shrunk.{KeepsResults}
 use Rattle.code_shrink.proofs.Endings.{copy_alike}
 use Rattle.code_copies.specs.SameRuns.{HasSameRuns}
-use Rattle.code_copies.proofs.MadeWhole.{too_long, all_within, neither, neither_holds, none_at, none_long, procs_by}
+use Rattle.code_copies.proofs.MadeWhole.{too_long, all_within, neither, neither_holds, none_at, none_long}
 use Rattle.code_shrink.specs.Numbers.{number_by}
+use Rattle.code_shrink.proofs.WholeCode.{procs_by}
 use Rattle.code_merging.specs.Merged.{under, AreEqual, merged_code}
 use Rattle.code_merging.proofs.MergedFollows.{is_there, merged_follows}
 use Rattle.code_merging.proofs.MergedMeasured.{under_height, under_work}
@@ -231,7 +232,7 @@ module _ (m : ℕ → ℕ) (k : Code) (well : IsCode k) (equal : AreEqual m k.pr
   starts_now : starts_known merged.procedures ≡ true
   starts_now =
       let parts = code_parts k well in
-      both_true (nat_lt (m k.procedures.start) (length procs_now)) (nat_lt (m k.procedures.react) (length procs_now))
+      and_from (nat_lt (m k.procedures.start) (length procs_now)) (nat_lt (m k.procedures.react) (length procs_now))
       (there_now k.procedures.start parts.start) (there_now k.procedures.react parts.react)
 
   -- the code is well formed

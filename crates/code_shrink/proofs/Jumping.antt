@@ -6,8 +6,9 @@ use Rattle.actions.specs.Work.{Now}
 use Rattle.code_language.specs.Code.{instructions}
 use Rattle.code_language.specs.Instrs.{Test, Instr, Unless, Skip}
 use Rattle.code_language.specs.Machine.{Program, Frame, machine, next, past, Goes, holds, test_next, act, step}
+use Rattle.code_language.proofs.Tails.{further, onward}
 use Rattle.code_shrink.specs.Follows.{Slides, Skips, Holds, Fails}
-use Rattle.code_shrink.proofs.Pairs.{further, onward, stands}
+use Rattle.code_shrink.proofs.Pairs.{stands}
 
 -- from a frame one step leads to another place of its procedure, where these instructions stand, and nothing else
 -- changes

@@ -4,7 +4,7 @@ use Rattle.std.proofs.Common.{List, [], ◌∷◌, ◌++◌, length, map, take, 
 use Rattle.std.proofs.Common.{Option, Some, None, refl, sym, ap, ◌∙◌, subst, arith}
 use Rattle.std.specs.Prelude.{Result, OnOk, slice_get, slice_index_or, nat_lt, ◌&&◌}
 use Rattle.std.specs.List.{list_any}
-use Rattle.std.proofs.lemmas.Bool.{ltb-true, ltb-false}
+use Rattle.std.proofs.lemmas.Bool.{ltb-true, ltb-false, and_parts}
 use Rattle.std.proofs.lemmas.List.{length-map, length-replicate}
 use Rattle.flow_base.specs.declared.list.List as kept
 use Rattle.flow_base.specs.declared.memory.Memory.{Memory}
@@ -21,7 +21,7 @@ use Rattle.code_language.specs.Sound.{AreSound}
 use Rattle.code_language.specs.WellFormed.{Known, known_of, is_event, is_state}
 use Rattle.code_language.specs.WellFormed.{is_proc, note_known, instr_known, IsCode}
 use Rattle.code_language.proofs.ListLemmas.{or_false}
-use Rattle.code_language.proofs.Sound.{code_parts, proc_at, both_true, proc_there}
+use Rattle.code_language.proofs.Sound.{code_parts, proc_at, proc_there}
 use Rattle.code_shrink.specs.Neat.{Names, constant_truth}
 use Rattle.code_shrink.specs.Ways.{way_of}
 use Rattle.code_shrink.specs.declared.places.Way.{Way}
@@ -74,7 +74,7 @@ note_below K (Some p) q h e =
 called_below : (K : Known) (p : ℕ) (tag : Option ℕ) (q : ℕ) → (is_proc K p && note_known K tag) ≡ true
     → (q ≡ p) ⊎ (tag ≡ Some q) → q < K.procs
 called_below K p tag q h n =
-    let parts = both_true (is_proc K p) (note_known K tag) h in
+    let parts = and_parts (is_proc K p) (note_known K tag) h in
     ⊎_elim (λ (e : q ≡ p). subst (λ (m : ℕ). m < K.procs) (sym e) (ltb-true p K.procs parts.0))
     (λ (e : tag ≡ Some q). note_below K tag q parts.1 e) n
 
@@ -92,8 +92,8 @@ named_below K (Call p tag) q h n = called_below K p tag q h n
 named_below K (Visit p tag) q h n = called_below K p tag q h n
 named_below K (Send e) q h n = absurd n
 named_below K (SendTo e s p) q h n =
-    let parts = both_true (is_event K e) (is_state K s && is_proc K p) h in
-    let there = both_true (is_state K s) (is_proc K p) parts.1 in
+    let parts = and_parts (is_event K e) (is_state K s && is_proc K p) h in
+    let there = and_parts (is_state K s) (is_proc K p) parts.1 in
     subst (λ (m : ℕ). m < K.procs) (sym n) (ltb-true p K.procs there.1)
 named_below K Play q h n = absurd n
 named_below K (Home s) q h n = absurd n

@@ -15,12 +15,13 @@ use Rattle.code_language.specs.Machine.{Program, Frame, CodeState, machine, fres
 use Rattle.code_language.specs.Machine.{noted, later, sent, play_next, act}
 use Rattle.code_language.specs.Machine as m
 use Rattle.code_language.specs.Reactions.{first_frame}
+use Rattle.code_language.proofs.Tails.{further, onward}
 use Rattle.code_shrink.specs.Follows.{note_by, renamed, NoteIn, NamesIn, goes_on}
 use Rattle.code_shrink.specs.Follows.{Follows, Nothing, Goes, Returns, Tests, Passes, Jumps, AreCopied}
 use Rattle.code_shrink.proofs.Simulation.{Alike, Go, Stop, alike_if, alike_test, alike_deep, alike_either, Ahead}
 use Rattle.code_shrink.proofs.Simulation.{at_once, first_alone, LeadAlike, lead_alike}
 use Rattle.code_shrink.proofs.Pairs.{twin, Paired, End, Both, same_length, Notes, Neither, Each, Found, Nowhere, There}
-use Rattle.code_shrink.proofs.Pairs.{found_alike, head_of, acts_at, further, onward}
+use Rattle.code_shrink.proofs.Pairs.{found_alike, head_of, acts_at}
 use Rattle.code_shrink.proofs.Jumping.{jumped}
 
 module _ (R : ℕ → Bool) (n : ℕ → ℕ) (k k' : Procedures) (copied : AreCopied R n k k') (t : Tree) (b : Bounds) where

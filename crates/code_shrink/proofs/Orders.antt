@@ -9,6 +9,7 @@ use Rattle.code_language.specs.WellFormed.{Known}
 use Rattle.code_language.proofs.Measures.{height_measure, work_measure}
 use Rattle.code_language.proofs.Reckoned.{IsMeasure, reckon_is, reckon_bounded}
 use Rattle.code_language.proofs.Sound.{calls_at}
+use Rattle.code_language.proofs.Greatest.{at_most_greatest}
 use Rattle.code_shrink.specs.Smaller.{straight, count, smaller}
 use Rattle.code_shrink.specs.Whole.{is_live, number_in, collected}
 use Rattle.code_shrink.proofs.Closed.{IsMarked, AreClosed, old_of, AllClosed}
@@ -86,12 +87,6 @@ comes_from R m (false ∷ live) (bs ∷ flags) (is ∷ procs) i now closed e =
     }
 
 -- ---- heights and works
-
--- a number is at most the greatest
-pub at_most_greatest : (ns : List ℕ) (p : ℕ) → slice_index ns p ≤ greatest ns
-at_most_greatest [] p = omega arith
-at_most_greatest (n ∷ ns) zero = omega arith
-at_most_greatest (n ∷ ns) (suc p) = omega (arith, at_most_greatest ns p)
 
 -- where all are at most a number the greatest is
 pub greatest_at_most : (ns : List ℕ) (n : ℕ) → ((p : ℕ) → slice_index ns p ≤ n) → greatest ns ≤ n

@@ -2,7 +2,7 @@
 use Rattle.std.proofs.Common.{◌≡◌, ℕ, zero, suc, ◌+◌, ◌<◌, ◌≤◌, true, List, [], ◌∷◌, ◌++◌, length, map}
 use Rattle.std.proofs.Common.{drop, get_or, reverse, refl, sym, ap, ◌∙◌, subst, arith, length-append}
 use Rattle.std.specs.Prelude.{slice_index, IsOk, Ok, Err}
-use Rattle.std.proofs.lemmas.Bool.{ltb-true}
+use Rattle.std.proofs.lemmas.Bool.{ltb-true, and_parts}
 use Rattle.std.proofs.lemmas.List.{reverse-append, length-map, length-drop}
 use Rattle.actions.specs.Exprs.{Expr, Lit, Flag, Read, Active, Neg, Not, Bin}
 use Rattle.actions.specs.Sorts.{Scope, Sorted, sort_of, with_sort, negative_sort, not_sort, binary_sort, scope_of}
@@ -14,7 +14,6 @@ use Rattle.code_language.specs.Instrs.{SendTo, Play, Home, Begin, Pass, Ret}
 use Rattle.code_language.specs.Sound.{IsSound, AreSound, EndsInRet}
 use Rattle.code_language.specs.WellFormed.{Known, skips_within, instr_typed, cond_typed, is_plain, is_flag}
 use Rattle.code_language.proofs.ListLemmas.{drop_map_at, drop_past}
-use Rattle.code_language.proofs.Sound.{both_true}
 use Rattle.code_shrink.specs.declared.places.Way.{Way}
 use Rattle.code_shrink.specs.Follows.{goes_on}
 use Rattle.code_shrink.specs.Neat.{is_closed}
@@ -36,7 +35,7 @@ same_sort c d (Active s) h = absurd cc
 same_sort c d (Neg a) h = ap (λ s. with_sort s negative_sort) (same_sort c d a h)
 same_sort c d (Not a) h = ap (λ s. with_sort s not_sort) (same_sort c d a h)
 same_sort c d (Bin op a b) h =
-    let parts = both_true (is_closed a) (is_closed b) h in
+    let parts = and_parts (is_closed a) (is_closed b) h in
     ap (λ s. with_sort s (λ left. with_sort (sort_of c b) (binary_sort op left))) (same_sort c d a parts.0)
     ∙ ap (λ t. with_sort (sort_of d a) (λ left. with_sort t (binary_sort op left))) (same_sort c d b parts.1)
 
@@ -50,7 +49,7 @@ pub typed_sort : (c : Scope) (k : ℕ) (e : Expr) → IsTyped (Unless k (Test e)
 unfolding instr_typed cond_typed
 typed_sort c k e h closed =
     let K = h.known in
-    let flag = both_true (is_plain e) (is_flag (sort_of (scope_of K.names) e)) h.typed in
+    let flag = and_parts (is_plain e) (is_flag (sort_of (scope_of K.names) e)) h.typed in
     subst (λ (s : Sorted). IsOk s) (same_sort (scope_of K.names) c e closed)
     (flag_sort (sort_of (scope_of K.names) e) flag.1)
 

@@ -3,7 +3,7 @@ use Rattle.std.proofs.Common.{◌≡◌, ◌≤◌, ◌<◌, ℕ, zero, suc, ◌
 use Rattle.std.proofs.Common.{Option, Some, None}
 use Rattle.std.proofs.Common.{refl, sym, ap, ◌∙◌, subst, arith}
 use Rattle.std.specs.Prelude.{nat_lt, slice_index, ◌==◌, ◌&&◌, not}
-use Rattle.std.proofs.lemmas.Bool.{lt-ltb, ltb-true}
+use Rattle.std.proofs.lemmas.Bool.{lt-ltb, ltb-true, and_from}
 use Rattle.actions.specs.Exprs.{Expr, Lit, Flag, Read, Active, Neg, Not, Bin}
 use Rattle.code_language.specs.Instrs.{Cond, On, Bare, OnHome, BareHome, Current, Result, Test, Last}
 use Rattle.code_language.specs.Instrs.{Instr, Assign, Emit, Mark, Clear, Keep, Unless, Skip, Call, Visit, Send}
@@ -14,7 +14,7 @@ use Rattle.code_language.specs.WellFormed.{is_event, is_proc, expr_known, cond_k
 use Rattle.code_language.specs.WellFormed.{note_known, instr_known, skips_within, calls_lower, cond_typed, instr_typed}
 use Rattle.code_language.specs.WellFormed.{is_ret}
 use Rattle.code_language.specs.WellFormed.{cond_keeps, instr_keeps}
-use Rattle.code_language.proofs.Accepted.{both_true, first_true, second_true}
+use Rattle.code_language.proofs.Accepted.{first_true, second_true}
 use Rattle.code_shrink.specs.Follows.{renamed, note_by, NoteIn, NamesIn, goes_on}
 use Rattle.code_shrink.specs.Smaller.{folded, slide_from, slides, threaded, straight, one_if, count, is_idle, keeps}
 use Rattle.code_shrink.specs.Smaller.{recounted, put_if, smaller}
@@ -66,23 +66,23 @@ below_put : (b : Bool) (y : Instr) (n : ℕ) (out : List Instr) → n < length o
 below_put true y n out h = omega arith
 below_put false y n out h = h
 
+-- expressions name the same data and states, whatever procedures there are
+pub expr_same : (K : Known) (n : ℕ) (e : Expr) → expr_known (with_procs K n) e ≡ expr_known K e
+unfolding expr_known
+expr_same K n (Lit x) = refl
+expr_same K n (Flag b) = refl
+expr_same K n (Read v) = refl
+expr_same K n (Active s) = refl
+expr_same K n (Neg a) = expr_same K n a
+expr_same K n (Not a) = expr_same K n a
+expr_same K n (Bin op a b) =
+    ap (λ l. l && expr_known (with_procs K n) b) (expr_same K n a) ∙ ap (λ r. expr_known K a && r) (expr_same K n b)
+
 module _ (R : ℕ → Bool) (m : ℕ → ℕ) (K : Known) (n : ℕ) (p : ℕ)
     (below : (q : ℕ) → R q ≡ true → m q < n) (lower : (q : ℕ) → R q ≡ true → q < p → m q < m p) where
   -- what the smaller code may name
   abbrev pub Now : Known
   Now = with_procs K n
-
-  -- the same data and states are there
-  expr_same : (e : Expr) → expr_known Now e ≡ expr_known K e
-  unfolding expr_known
-  expr_same (Lit x) = refl
-  expr_same (Flag b) = refl
-  expr_same (Read v) = refl
-  expr_same (Active s) = refl
-  expr_same (Neg a) = expr_same a
-  expr_same (Not a) = expr_same a
-  expr_same (Bin op a b) =
-      ap (λ l. l && expr_known Now b) (expr_same a) ∙ ap (λ r. expr_known K a && r) (expr_same b)
 
   -- and conditions name what is there
   cond_same : (c : Cond) → cond_known Now c ≡ cond_known K c
@@ -93,7 +93,7 @@ module _ (R : ℕ → Bool) (m : ℕ → ℕ) (K : Known) (n : ℕ) (p : ℕ)
   cond_same BareHome = refl
   cond_same (Current e) = refl
   cond_same (Result r) = refl
-  cond_same (Test e) = expr_same e
+  cond_same (Test e) = expr_same K n e
   cond_same (Last s) = refl
 
   -- with the same types
@@ -130,7 +130,7 @@ module _ (R : ℕ → Bool) (m : ℕ → ℕ) (K : Known) (n : ℕ) (p : ℕ)
       → IsSound Now (m p) behind' (renamed m x)
   unfolding goes_on NamesIn renamed instr_known skips_within calls_lower instr_typed instr_keeps
   plain_sound (Assign v x) behind behind' g named h = record {
-    known = subst (λ b. (is_datum K v && b) ≡ true) (sym (expr_same x)) h.known;
+    known = subst (λ b. (is_datum K v && b) ≡ true) (sym (expr_same K n x)) h.known;
     within = refl;
     lower = refl;
     typed = h.typed;
@@ -156,7 +156,7 @@ module _ (R : ℕ → Bool) (m : ℕ → ℕ) (K : Known) (n : ℕ) (p : ℕ)
       record { known = refl; within = refl; lower = refl; typed = refl; keeps = refl }
   plain_sound (Call q tag) behind behind' g named h = record {
     known =
-        both_true (nat_lt (m q) n) (note_known Now (note_by m tag)) (lt-ltb (m q) n (below q named.0))
+        and_from (nat_lt (m q) n) (note_known Now (note_by m tag)) (lt-ltb (m q) n (below q named.0))
         (note_there tag named.1);
     within = refl;
     lower = lt-ltb (m q) (m p) (lower q named.0 (ltb-true q p h.lower));
@@ -165,7 +165,7 @@ module _ (R : ℕ → Bool) (m : ℕ → ℕ) (K : Known) (n : ℕ) (p : ℕ)
   }
   plain_sound (Visit q tag) behind behind' g named h = record {
     known =
-        both_true (nat_lt (m q) n) (note_known Now (note_by m tag)) (lt-ltb (m q) n (below q named.0))
+        and_from (nat_lt (m q) n) (note_known Now (note_by m tag)) (lt-ltb (m q) n (below q named.0))
         (note_there tag named.1);
     within = refl;
     lower = refl;
@@ -174,9 +174,9 @@ module _ (R : ℕ → Bool) (m : ℕ → ℕ) (K : Known) (n : ℕ) (p : ℕ)
   }
   plain_sound (SendTo e t q) behind behind' g named h = record {
     known =
-        both_true (is_event K e) (is_state K t && nat_lt (m q) n)
+        and_from (is_event K e) (is_state K t && nat_lt (m q) n)
         (first_true (is_event K e) (is_state K t && is_proc K q) h.known)
-        (both_true (is_state K t) (nat_lt (m q) n)
+        (and_from (is_state K t) (nat_lt (m q) n)
         (first_true (is_state K t) (is_proc K q) (second_true (is_event K e) (is_state K t && is_proc K q) h.known))
         (lt-ltb (m q) n (below q named)));
     within = refl;

@@ -5,6 +5,7 @@ use Rattle.std.specs.Prelude.{slice_index, ◌==◌, ◌&&◌, not}
 use Rattle.std.proofs.lemmas.Bool.Decides.{nat_tests}
 use Rattle.code_language.specs.Instrs.{Instr, Assign, Emit, Mark, Clear, Keep, Unless, Skip, Call, Visit, Send}
 use Rattle.code_language.specs.Instrs.{SendTo, Play, Home, Begin, Pass, Ret}
+use Rattle.code_language.proofs.Tails.{drop_none}
 use Rattle.code_shrink.specs.Follows.{renamed, NamesIn, goes_on, Slides, Skips, Follows, Nothing, Goes, Returns, Tests}
 use Rattle.code_shrink.specs.Follows.{Passes, Jumps}
 use Rattle.code_shrink.specs.Smaller.{folded, slide_from, slides, threaded, straight, one_if, count, is_idle, keeps}
@@ -52,11 +53,6 @@ plain m Begin h =
 plain m Pass h =
     record { threads = λ ls. refl; stays = λ ls. refl; keeps = λ bs. refl; counts = λ bs. refl; lands = λ bs l. l }
 plain m (Ret r) h = absurd cc
-
--- nothing is left of nothing
-pub drop_none : (k : ℕ) → drop {A = Instr} k [] ≡ []
-drop_none zero = refl
-drop_none (suc k) = refl
 
 -- past an instruction that may be kept
 pub past_put : (b : Bool) (y : Instr) (n : ℕ) (out : List Instr) → drop (one_if b n) (put_if b y out) ≡ drop n out

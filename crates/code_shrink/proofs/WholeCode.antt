@@ -4,7 +4,7 @@ use Rattle.std.proofs.Common.{drop, Option, Some, None}
 use Rattle.std.proofs.Common.{refl, sym, ap, ◌∙◌, subst, arith, get_or-drop}
 use Rattle.std.specs.Prelude.{slice_get, slice_index, slice_index_or, nat_lt, not, ◌||◌}
 use Rattle.std.specs.List.{list_any}
-use Rattle.std.proofs.lemmas.Bool.{lt-ltb, le-ltb, ltb-false}
+use Rattle.std.proofs.lemmas.Bool.{lt-ltb, le-ltb, ltb-false, not-true, and_from}
 use Rattle.code_language.specs.Code.{Code, Procedures, instructions}
 use Rattle.code_language.specs.Instrs.{Instr, Assign, Emit, Mark, Clear, Keep, Unless, Skip, Call, Visit, Send}
 use Rattle.code_language.specs.Instrs.{SendTo, Play, Home, Begin, Pass, Ret}
@@ -17,15 +17,16 @@ use Rattle.code_language.specs.declared.fault.CodeFault.{CodeFault}
 use Rattle.code_language.specs.declared.fault.CodeKind.{CodeKind}
 use Rattle.code_language.specs.declared.fault.CodeKind.TheVariants as kinds
 use Rattle.code_language.specs.declared.limits.TheConstants.{PROC_LIMIT, INSTR_LIMIT, HEIGHT_LIMIT, WORK_LIMIT}
-use Rattle.code_language.proofs.Accepted.{no_procs_fault, none_over, both_true, first_none, unless_none, holds_none}
+use Rattle.code_language.proofs.Accepted.{no_procs_fault, none_over, first_none, unless_none, holds_none}
 use Rattle.code_language.proofs.Sound.{code_parts, proc_at, or_none, instructions_at}
+use Rattle.code_language.proofs.Greatest.{at_most_greatest}
 use Rattle.code_shrink.specs.Follows.{NoteIn, NamesIn}
 use Rattle.code_shrink.specs.Neat.{IsAfter, Comes, First, After, Names}
 use Rattle.code_shrink.specs.Smaller.{count, one_if, straight, smaller}
 use Rattle.code_shrink.specs.Whole.{keep_if, is_live, number_in, collected, smaller_code, AreReached}
 use Rattle.code_shrink.specs.Whole.{LiveStart, LiveReaction, LiveNamed, AllReached, IsExact}
 use Rattle.code_shrink.proofs.Closed.{IsMarked, Lands, AreClosed, AllClosed, KeepsReached}
-use Rattle.code_shrink.proofs.Orders.{comes_from, heights_less, works_less, at_most_greatest}
+use Rattle.code_shrink.proofs.Orders.{comes_from, heights_less, works_less}
 use Rattle.code_shrink.proofs.Sounder.{smaller_proc, smaller_length}
 
 -- ---- flags that say what is reached are closed
@@ -139,7 +140,7 @@ exact_keeps live flags k h = record {
 -- ---- well formed
 
 -- procedures that are there one by one
-procs_by : (K : Known) (from : ℕ) (procs : List (List Instr))
+pub procs_by : (K : Known) (from : ℕ) (procs : List (List Instr))
     → ((i : ℕ) (is : List Instr) → slice_get procs i ≡ Some is → IsProc K (from + i) is) → AreProcs K from procs
 procs_by K from [] h = tt
 procs_by K from (is ∷ procs) h =
@@ -225,11 +226,6 @@ none_too_long m (true ∷ live) (bs ∷ flags) (is ∷ procs) h =
 none_too_long m (false ∷ live) (bs ∷ flags) (is ∷ procs) h =
     none_too_long m live flags procs (or_second (too_long is) (list_any too_long procs) h)
 
--- a test whose opposite holds
-not_true : (b : Bool) → not b ≡ true → b ≡ false
-not_true true h = absurd (cc h)
-not_true false h = refl
-
 -- no fault of either
 neither : (o later : Option CodeFault) → o ≡ None → later ≡ None → first_of o later ≡ None
 neither o later h g = ap (λ f. first_of f later) h ∙ g
@@ -241,7 +237,7 @@ unfolding first_over
 greatest_within limit kind p [] h = omega arith
 greatest_within limit kind p (n ∷ ns) h =
     let parts = first_none (unless (not (nat_lt limit n)) kind p 0) (first_over limit kind (p + 1) ns) h in
-    let low = ltb-false limit n (not_true (nat_lt limit n) (unless_none (not (nat_lt limit n)) kind p 0 parts.0)) in
+    let low = ltb-false limit n (not-true (nat_lt limit n) (unless_none (not (nat_lt limit n)) kind p 0 parts.0)) in
     omega (arith, low, greatest_within limit kind (p + 1) ns parts.1)
 
 module _ (live : List Bool) (flags : List (List Bool)) (k : Code) (well : IsCode k)
@@ -310,7 +306,7 @@ module _ (live : List Bool) (flags : List (List Bool)) (k : Code) (well : IsCode
   -- the procedures of the start and of a reaction are there
   starts_now : starts_known small.procedures ≡ true
   starts_now =
-      both_true (nat_lt (number_in live k.procedures.start) (length procs_now))
+      and_from (nat_lt (number_in live k.procedures.start) (length procs_now))
       (nat_lt (number_in live k.procedures.react) (length procs_now))
       (lt-ltb (number_in live k.procedures.start) (length procs_now)
       (number_below (is_live live)

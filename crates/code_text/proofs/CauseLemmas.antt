@@ -9,7 +9,7 @@ use Rattle.code_language.proofs.DecideLemmas.{formed_or_faulty}
 use Rattle.code_text.specs.declared.fault.CodeTextFault.{CodeTextFault}
 use Rattle.code_text.specs.declared.fault.CodeTextFault.TheVariants as faults
 use Rattle.code_text.specs.declared.limits.TheConstants.{TEXT_LIMIT}
-use Rattle.code_text.specs.Lines.{cut_of}
+use Rattle.code_fields.specs.Lines.{cut_of}
 use Rattle.code_text.specs.Reading.{Partial, is_whole, nothing_read, next, refusal, all_read, or_refuse, outcome_from}
 use Rattle.code_text.specs.Reading.{spelled, IsCause}
 use Rattle.code_text.specs.Written.{Written, code_written}

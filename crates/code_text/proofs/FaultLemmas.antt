@@ -15,7 +15,7 @@ use Rattle.code_text.specs.declared.expected.Expected.{Expected}
 use Rattle.code_text.specs.declared.fault.CodeTextFault.{CodeTextFault}
 use Rattle.code_text.specs.declared.fault.CodeTextFault.TheVariants as faults
 use Rattle.code_text.specs.declared.limits.TheConstants.{TEXT_LIMIT}
-use Rattle.code_text.specs.Lines.{cut_of}
+use Rattle.code_fields.specs.Lines.{cut_of}
 use Rattle.code_text.specs.Written.{Written, written_of, code_written}
 use Rattle.code_text.specs.Spelling.{code_text, IsSpellable}
 use Rattle.code_text.specs.Reading.{Partial, nothing_read, next, is_whole, refusal, at_end}

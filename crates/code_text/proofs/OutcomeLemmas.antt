@@ -10,11 +10,11 @@ use Rattle.code_lines.specs.declared.format.Format.TheVariants as formats
 use Rattle.code_text.specs.declared.fault.CodeTextFault.{CodeTextFault}
 use Rattle.code_text.specs.declared.fault.CodeTextFault.TheVariants as faults
 use Rattle.code_text.specs.declared.limits.TheConstants.{TEXT_LIMIT}
-use Rattle.code_text.specs.Lines.{Cut, begun_with, line_then, cut_of}
+use Rattle.code_fields.specs.Lines.{Cut, begun_with, line_then, cut_of}
 use Rattle.code_text.specs.Written.{Written}
 use Rattle.code_text.specs.Spelling.{code_lines, text_of, code_text, IsSpellable}
 use Rattle.code_text.specs.Reading.{nothing_read, outcome_from, spelled}
-use Rattle.code_text.proofs.CutLemmas.{cut_of-line}
+use Rattle.code_fields.proofs.LineCuts.{cut_of-line}
 use Rattle.code_text.proofs.StepLemmas.{outcome-steps, read_from}
 use Rattle.code_text.proofs.NewlineLemmas.{AreLines, code_lines-are}
 use Rattle.code_text.proofs.CodeLemmas.{all_done, nothing_behind, lines_read, lines_spelled}

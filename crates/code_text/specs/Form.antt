@@ -1,5 +1,6 @@
 -- How the faults of a text are printed.
 use Rattle.std.specs.Prelude.{ℕ, List, [], ◌++◌, Option, Some, None, codes, decimal}
+use Rattle.code_fields.specs.Lines.{line_words}
 use Rattle.code_language.specs.Form.{code_fault_text}
 use Rattle.code_text.specs.declared.fault.CodeTextFault.{CodeTextFault}
 use Rattle.code_text.specs.declared.fault.CodeTextFault.TheVariants as faults
@@ -33,11 +34,6 @@ fault_line faults.Version = None
 fault_line faults.TextTooLong = None
 fault_line (faults.Form fault) = None
 fault_line faults.Memory = None
-
--- a line after a space
-abbrev pub line_words : Option ℕ → List ℕ
-line_words None = []
-line_words (Some n) = codes " " ++ decimal n
 
 -- the line, number and name of a fault
 abbrev pub fault_head : CodeTextFault → List ℕ

@@ -1,4 +1,3 @@
-pub mod Lines
 pub mod Written
 pub mod Spelling
 pub mod Reading

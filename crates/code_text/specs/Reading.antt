@@ -18,7 +18,7 @@ use Rattle.code_text.specs.declared.fault.CodeTextFault.TheVariants as faults
 use Rattle.code_text.specs.declared.expected.Expected.{Expected}
 use Rattle.code_text.specs.declared.expected.Expected.TheVariants as expects
 use Rattle.code_text.specs.declared.limits.TheConstants.{TEXT_LIMIT}
-use Rattle.code_text.specs.Lines.{cut_of}
+use Rattle.code_fields.specs.Lines.{cut_of}
 use Rattle.code_text.specs.Spelling.{version_line, end_line}
 use Rattle.code_text.specs.Written.{Written, code_written}
 

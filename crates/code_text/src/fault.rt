@@ -1,9 +1,10 @@
 //! Why a text is refused.
 ghost use Rattle.std.specs.Prelude.{◌≡◌, ◌+◌, ◌*◌, ◌≤◌, ◌++◌, length};
 ghost use Rattle.arrayvec.specs.ArrayString.{array_string_len};
-ghost use Rattle.code_text.specs.Form.{fault_number, fault_name, fault_line, line_words, fault_head, fault_text};
+ghost use Rattle.code_text.specs.Form.{fault_number, fault_name, fault_line, fault_head, fault_text};
 
 use arrayvec::ArrayString;
+use code_fields::push_line;
 use code_language::{CODE_FAULT_ROOM, CodeFault};
 use itoa::Buffer;
 use thiserror::Error;
@@ -114,18 +115,5 @@ impl CodeTextFault {
         text.push_str(digits.format(self.number()));
         text.push_str(" ");
         text.push_str(self.name());
-    }
-}
-
-/// Appends a space and the line, if there is one.
-fn push_line(text: &mut ArrayString<FAULT_ROOM>, line: Option<u32>)
-    requires { array_string_len text.old ≤ 4 }
-    ensures bytes { text.new.bytes ≡ text.old.bytes ++ line_words line }
-    ensures short { array_string_len text.new ≤ array_string_len text.old + 1 + 40 }
-{
-    if let Some(line) = line {
-        let mut digits = Buffer::new();
-        text.push_str(" ");
-        text.push_str(digits.format(line));
     }
 }

@@ -23,4 +23,4 @@ pub use laws::{
 };
 pub use limits::TEXT_LIMIT;
 pub use printer::print_code;
-pub use reader::{read_code, read_raw};
+pub use reader::read_code;

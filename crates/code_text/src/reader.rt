@@ -1,10 +1,8 @@
 //! Code from its text.
-ghost use Rattle.std.specs.Prelude.{◌≡◌, ◌<◌, ◌≤◌, [], length, IfSome, IfOk, IfErr, Ok};
-ghost use Rattle.std.specs.Prelude.{MatchOption, MatchResult};
+ghost use Rattle.std.specs.Prelude.{◌≡◌, ◌≤◌, length, IfOk, IfErr, Ok, MatchResult};
 ghost use Rattle.code_language.specs.Code.{code_of};
 ghost use Rattle.code_language.specs.WellFormed.{IsCode};
 ghost use Rattle.code_lines.specs.declared.format.Format as declared;
-ghost use Rattle.code_text.specs.Lines.{cut_of, line_then};
 ghost use Rattle.code_text.specs.Reading as spec;
 ghost use Rattle.code_text.specs.Spelling.{code_text, IsSpellable};
 ghost use Rattle.code_text.specs.Views.{partial_of, Answers, IsAnswer};
@@ -14,7 +12,7 @@ use crate::fault::CodeTextFault;
 use crate::limits::TEXT_LIMIT;
 use crate::partial::Partial;
 use crate::refusal::{is_whole, refusal};
-use code_fields::{Parts, cut_at};
+use code_fields::next_line;
 use code_language::{Code, CodeEnd, RawCode, accept};
 use std::alloc::Global;
 
@@ -57,7 +55,7 @@ fn read_formed(alloc: Global, text: &[u8]) -> Result<Code, CodeTextFault>
 
 /// The code that a text spells, well formed or not. The text is read once, from its first line on,
 /// and a count in it takes no memory by itself.
-pub fn read_raw(alloc: Global, text: &[u8]) -> Result<RawCode, CodeTextFault>
+fn read_raw(alloc: Global, text: &[u8]) -> Result<RawCode, CodeTextFault>
     ensures { Answers written_of result (spec.spelled text.now) }
 {
     if text.len() > TEXT_LIMIT {
@@ -77,15 +75,6 @@ pub fn read_raw(alloc: Global, text: &[u8]) -> Result<RawCode, CodeTextFault>
         number += 1;
     }
     read_to_end(partial, number, rest)
-}
-
-/// The first line of a text, and what stands after it.
-fn next_line(text: &[u8]) -> Option<Parts<'_>>
-    ensures line { MatchOption result (cut_of text.now ≡ record { lines = []; rest = text.now })
-        (λ parts. cut_of text.now ≡ line_then parts.front.now (cut_of parts.rest.now)) }
-    ensures shorter { IfSome result (λ parts. length parts.rest.now < length text.now) }
-{
-    cut_at(text, b'\n')
 }
 
 /// The code, where the line `end` was read and nothing stands after it. The line that isn't whole

@@ -6,7 +6,7 @@ use Rattle.std.specs.List.{find}
 use Rattle.std.specs.Option.{option_map_or}
 use Rattle.flow_base.specs.declared.bounds.Bounds.{Bounds}
 use Rattle.active_config.specs.Marks.{is_on, is_bare, can_mark, is_last}
-use Rattle.active_config.specs.Tree.{comp_of, parent_of, children_of}
+use Rattle.active_config.specs.Tree.{comp_of, parent_of, children_of, is_or}
 use Rattle.active_config.specs.declared.comp.Comp.{Comp}
 use Rattle.active_config.specs.declared.comp.Comp.TheVariants.{Leaf, Or, And}
 use Rattle.actions.specs.Changes.{truth_of, set_mark}
@@ -15,7 +15,7 @@ use Rattle.actions.specs.Exprs.{Flag, Stmt}
 use Rattle.actions.specs.World.{World, Life, On, Bare}
 use Rattle.actions.specs.Work.{Run, Ended, Faulted, Unfinished, Work, then_do, give, choose, if_some, if_done, End, Done}
 use Rattle.actions.specs.Work.{Cut, Now, is_event, flag_or_fault, nothing, ◌>>=◌, ◌>>◌}
-use Rattle.checked_chart.specs.Chart.{Chart, Node, Trans, node, junction, is_or, has_history, is_remembered, may_return}
+use Rattle.checked_chart.specs.Chart.{Chart, Node, Trans, node, junction, has_history, is_remembered, may_return}
 use Rattle.sos_rules.specs.Moves.{keep_if, entered_in, exit_children, exit_rule, enter_inside, enter_rule, remembered, after_default}
 use Rattle.sos_rules.specs.Moves.{default_search, defaults_rule}
 use Rattle.sos_rules.specs.Parts.{Found, Fire, DeadEnd, No, Stop, Stay, Parts, no_parts}

@@ -18,6 +18,7 @@ mod writing;
 pub use arithmetic::{add, compare, mul, neg, sub};
 pub use fitting::{Mode, Overflow, exact, fit};
 pub use num::{FRACTION_LIMIT, MAGNITUDE_LIMIT, Num};
+pub use power::power_of_two;
 pub use quotient::{Zero, div};
 pub use reading::{
     DIGIT_LIMIT, NumFault, Numeral, frac_of, number_of, read_decimal, split_digits, split_number,

@@ -2,9 +2,9 @@
 ghost use Rattle.std.specs.Prelude.{◌≡◌, ◌<◌, ◌≤◌, ◌^◌, pos};
 ghost use Rattle.fixed_point.specs.declared.reading.TheConstants.{DIGIT_LIMIT};
 
-/// 2 to the exponent.
+/// 2 to the exponent, which is at most 126.
 #[inline(always)]
-pub(crate) fn power_of_two(exponent: u32) -> i128
+pub fn power_of_two(exponent: u32) -> i128
     requires { exponent < 127 }
     ensures { result ≡ pos (2 ^ exponent) }
 {

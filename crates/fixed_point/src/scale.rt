@@ -47,7 +47,7 @@ impl Scale {
 
     /// The least mantissa.
     #[inline(always)]
-    pub(crate) fn least(self) -> i128
+    pub fn least(self) -> i128
         ensures { result ≡ least self }
     {
         if self.signed {
@@ -59,7 +59,7 @@ impl Scale {
 
     /// The greatest mantissa.
     #[inline(always)]
-    pub(crate) fn greatest(self) -> i128
+    pub fn greatest(self) -> i128
         ensures { result ≡ greatest self }
     {
         if self.signed {

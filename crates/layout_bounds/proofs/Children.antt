@@ -5,8 +5,8 @@ use Rattle.std.specs.Prelude.{◌==◌, if◌then◌else◌}
 use Rattle.std.specs.List.{AllByRecursion}
 use Rattle.std.specs.Option.{option_map_or}
 use Rattle.std.proofs.lemmas.Bool.Decides.{nat_tests}
-use Rattle.active_config.specs.Tree.{state_count, parent_of, comp_of, children_of, is_at_or_below}
-use Rattle.checked_chart.specs.Chart.{Chart, node, is_or, has_history, is_remembered, may_return}
+use Rattle.active_config.specs.Tree.{state_count, parent_of, comp_of, children_of, is_at_or_below, is_or}
+use Rattle.checked_chart.specs.Chart.{Chart, node, has_history, is_remembered, may_return}
 use Rattle.checked_chart.specs.Homes.{child_toward, path_in}
 use Rattle.checked_chart.specs.Valid.{IsValid}
 use Rattle.checked_chart.proofs.Trees.{IsChild, all_map, children_are, toward_is_child}

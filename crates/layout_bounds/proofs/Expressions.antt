@@ -3,7 +3,7 @@ use Rattle.std.proofs.Common.{◌≡◌, ◌≢◌, ℕ, ◌^◌, Bool, true, fa
 use Rattle.std.proofs.Common.{Option, Some, None, Ok, Err, refl, sym, ap, ◌∙◌, subst, arith}
 use Rattle.std.specs.Prelude.{not, nat_lt, pos, int_lt, int_le, slice_get, if◌then◌else◌}
 use Rattle.std.specs.Option.{option_map_or}
-use Rattle.std.proofs.lemmas.Bool.{lt-ltb, le-leb, ltb-true}
+use Rattle.std.proofs.lemmas.Bool.{lt-ltb, le-leb, ltb-true, and_from}
 use Rattle.std.proofs.lemmas.Bool.Decides.{nat_tests}
 use Rattle.std.proofs.lemmas.Option.{slice_get_within}
 use Rattle.std.proofs.lemmas.List.{length-map}
@@ -31,7 +31,6 @@ use Rattle.code_language.specs.Instrs.{Current, Test, Assign}
 use Rattle.code_language.specs.WellFormed.{expr_known, is_literal, has_literals, is_plain, is_flag, is_assigned}
 use Rattle.code_language.specs.WellFormed.{is_fine, takes, is_trigger, event_is, is_event}
 use Rattle.code_language.specs.WellFormed.{cond_known, cond_typed, cond_keeps, instr_known, instr_typed}
-use Rattle.code_language.proofs.Accepted.{both_true}
 use Rattle.layout_bounds.specs.Sound.{known}
 use Rattle.layout_bounds.proofs.Instructions.{IsCond}
 
@@ -48,7 +47,7 @@ literal_fits n h =
     subst (λ m. int_le (pos 0) m ≡ true) (sym h.mantissa) (not_negative h.units) in
     let high : int_lt n.mantissa (pos (2 ^ 99)) ≡ true =
     subst (λ m. int_lt m (pos (2 ^ 99)) ≡ true) (sym h.mantissa) (lt-ltb h.units (2 ^ 99) h.small) in
-    both_true _ _ low (both_true _ _ high (lt-ltb n.frac 33 (omega (arith, h.short))))
+    and_from _ _ low (and_from _ _ high (lt-ltb n.frac 33 (omega (arith, h.short))))
 
 -- the literals of an expression are
 literals_fit : (e : Expr) → LiteralsFit e → has_literals e ≡ true
@@ -59,14 +58,14 @@ literals_fit (Read v) h = refl
 literals_fit (Active s) h = refl
 literals_fit (Neg a) h = literals_fit a h
 literals_fit (Not a) h = literals_fit a h
-literals_fit (Bin op a b) h = both_true _ _ (literals_fit a h.0) (literals_fit b h.1)
+literals_fit (Bin op a b) h = and_from _ _ (literals_fit a h.0) (literals_fit b h.1)
 
 -- an expression of a valid chart is short enough, with such literals
 pub plain : (e : Expr) → IsExpr e → is_plain e ≡ true
 plain e h =
     let few = h.operators in
     let short : not (nat_lt OPERATOR_LIMIT (operator_count e)) ≡ true = grind (arith, nat_tests) in
-    both_true _ _ short (literals_fit e h.literals)
+    and_from _ _ short (literals_fit e h.literals)
 
 -- ---- what an expression names
 
@@ -108,7 +107,7 @@ module _ (c : Chart) (n : ℕ) (states : length c.names.states ≡ state_count c
       let left = part_sorted (sort_of (scope_of c.names) a)
       (λ l. with_sort (sort_of (scope_of c.names) b) (binary_sort op l)) sort h in
       let right = part_sorted (sort_of (scope_of c.names) b) (binary_sort op left.0) sort left.2 in
-      both_true _ _ (names_known a left.0 left.1) (names_known b right.0 right.1)
+      and_from _ _ (names_known a left.0 left.1) (names_known b right.0 right.1)
 
   -- ---- guards and assignments
 
@@ -121,7 +120,7 @@ module _ (c : Chart) (n : ℕ) (states : length c.names.states ≡ state_count c
   unfolding cond_known cond_typed cond_keeps
   guard_is e h = record {
     known = names_known e sorts.Flag h.1;
-    typed = both_true _ _ (plain e h.0) (flag_sorted (sort_of (scope_of c.names) e) h.1);
+    typed = and_from _ _ (plain e h.0) (flag_sorted (sort_of (scope_of c.names) e) h.1);
     keeps = refl;
   }
 
@@ -139,20 +138,20 @@ module _ (c : Chart) (n : ℕ) (states : length c.names.states ≡ state_count c
   taken : (r : Sorted) (v : Var) (sort : ExprSort) → r ≡ Ok sort → v.kind ≢ vars.Input
       → assignment_fault v.sort sort ≡ None → takes v r ≡ true
   taken r v sort e no_input h =
-      ap (takes v) e ∙ both_true _ _ (assigned v.kind no_input) (fine (assignment_fault v.sort sort) h)
+      ap (takes v) e ∙ and_from _ _ (assigned v.kind no_input) (fine (assignment_fault v.sort sort) h)
 
   -- the datum and what the expression of an assignment names are there
   pub assign_known : (v : ℕ) (e : Expr) → CanAssign c.names v e → instr_known (known c n) (Assign v e) ≡ true
   unfolding instr_known
   assign_known v e h =
-      both_true _ _ (lt-ltb v (length c.names.vars) (slice_get_within c.names.vars v h.decl h.declared))
+      and_from _ _ (lt-ltb v (length c.names.vars) (slice_get_within c.names.vars v h.decl h.declared))
       (names_known e h.sort h.sorted)
 
   -- an assignment has the right types
   pub assign_typed : (v : ℕ) (e : Expr) → CanAssign c.names v e → instr_typed (known c n) (Assign v e) ≡ true
   unfolding instr_typed
   assign_typed v e h =
-      both_true _ _ (plain e h.expr)
+      and_from _ _ (plain e h.expr)
       (ap (λ o. option_map_or (λ decl. takes decl (sort_of (scope_of c.names) e)) o false) h.declared
       ∙ taken (sort_of (scope_of c.names) e) h.decl h.sort h.sorted h.no_input h.takes)
 

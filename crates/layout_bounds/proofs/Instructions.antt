@@ -1,14 +1,13 @@
 -- A sound instruction in front of a sound procedure makes a sound procedure.
 use Rattle.std.proofs.Common.{◌≡◌, ℕ, ◌+◌, ◌<◌, true, List, [], ◌∷◌, length, Option, Some, None, refl, arith}
 use Rattle.std.specs.Prelude.{nat_lt, IfSome}
-use Rattle.std.proofs.lemmas.Bool.{lt-ltb}
+use Rattle.std.proofs.lemmas.Bool.{lt-ltb, and_from}
 use Rattle.active_config.specs.Tree.{state_count}
 use Rattle.code_language.specs.Instrs.{Cond, Instr, Mark, Clear, Keep, Unless, Skip, Call, Visit, Play, Home}
 use Rattle.code_language.specs.Instrs.{Begin, Pass, Ret}
 use Rattle.code_language.specs.Sound.{IsSound, EndsInRet, IsProc}
 use Rattle.code_language.specs.WellFormed.{Known, instr_known, skips_within, calls_lower, instr_typed, instr_keeps}
 use Rattle.code_language.specs.WellFormed.{note_known, cond_known, cond_typed, cond_keeps, can_be_kept, is_ret}
-use Rattle.code_language.proofs.Accepted.{both_true}
 
 -- what ends in a return does so after one more instruction
 pub ends_behind : (x : Instr) (is : List Instr) → EndsInRet is → EndsInRet (x ∷ is)
@@ -160,7 +159,7 @@ module _ {K : Known} {p : ℕ} {rest : List Instr} where
   unfolding instr_known skips_within calls_lower instr_typed instr_keeps
   call_noting q tag there lt named h =
       in_front (Call q tag) (record {
-        known = both_true (nat_lt q K.procs) (note_known K tag) (lt-ltb q K.procs (omega arith))
+        known = and_from (nat_lt q K.procs) (note_known K tag) (lt-ltb q K.procs (omega arith))
             (note_there K tag named);
         within = refl;
         lower = lt-ltb q p lt;
@@ -178,7 +177,7 @@ module _ {K : Known} {p : ℕ} {rest : List Instr} where
   unfolding instr_known skips_within calls_lower instr_typed instr_keeps
   visit q tag there named h =
       in_front (Visit q tag) (record {
-        known = both_true (nat_lt q K.procs) (note_known K tag) (lt-ltb q K.procs there) (note_there K tag named);
+        known = and_from (nat_lt q K.procs) (note_known K tag) (lt-ltb q K.procs there) (note_there K tag named);
         within = refl;
         lower = refl;
         typed = refl;

@@ -1,7 +1,7 @@
 -- The procedures of blocks and of guards are sound.
 use Rattle.std.proofs.Common.{ℕ, ◌<◌, List, [], ◌∷◌, Some, refl, ap, arith}
 use Rattle.std.specs.Prelude.{◌&&◌}
-use Rattle.std.proofs.lemmas.Bool.{lt-ltb}
+use Rattle.std.proofs.lemmas.Bool.{lt-ltb, and_from}
 use Rattle.active_config.specs.Tree.{state_count}
 use Rattle.actions.specs.declared.names.EventKind.TheVariants as events
 use Rattle.actions.specs.Exprs.{Expr, Stmt, Assign, Send, SendTo, Emit}
@@ -13,7 +13,6 @@ use Rattle.code_language.specs.Instrs as instrs
 use Rattle.code_language.specs.Sound.{IsProc}
 use Rattle.code_language.specs.WellFormed.{Known, instr_known, skips_within, calls_lower, instr_typed, instr_keeps}
 use Rattle.code_language.specs.WellFormed.{is_event, is_state, is_proc, is_output, is_local}
-use Rattle.code_language.proofs.Accepted.{both_true}
 use Rattle.chart_code.specs.Numbers.{Numbers}
 use Rattle.chart_code.specs.StateProcedures.{life_test, block_code, guard_code}
 use Rattle.layout_bounds.specs.Sound.{known}
@@ -71,9 +70,9 @@ module _ (c : Chart) (valid : IsValid c) (N : Numbers) (n p : ℕ) where
   unfolding instr_known skips_within calls_lower instr_typed instr_keeps
   send_to e s q is lt named h =
       in_front (instrs.SendTo e s q) (record {
-        known = both_true (is_event K e) (is_state K s && is_proc K q)
+        known = and_from (is_event K e) (is_state K s && is_proc K q)
             (event_known c n valid.state_names e is.decl is.declared)
-            (both_true (is_state K s) (is_proc K q) (lt-ltb s (state_count c.tree) lt) (lt-ltb q n named));
+            (and_from (is_state K s) (is_proc K q) (lt-ltb s (state_count c.tree) lt) (lt-ltb q n named));
         within = refl;
         lower = refl;
         typed = event_typed c n valid.state_names is_local e is.decl is.declared (ap is_local is.kind_is);

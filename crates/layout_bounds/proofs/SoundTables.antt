@@ -1,13 +1,12 @@
 -- The tables of the code of a chart are right, and the procedures of a start and of a reaction are among all.
 use Rattle.std.proofs.Common.{◌≡◌, ℕ, ◌<◌, true, length, refl, arith}
 use Rattle.std.specs.Prelude.{nat_lt}
-use Rattle.std.proofs.lemmas.Bool.{lt-ltb}
+use Rattle.std.proofs.lemmas.Bool.{lt-ltb, and_from}
 use Rattle.active_config.proofs.PathLemmas.{is_at_or_below-same}
 use Rattle.checked_chart.specs.Chart.{Chart}
 use Rattle.checked_chart.specs.Valid.{IsValid}
 use Rattle.code_language.specs.Tables.{IsTable}
 use Rattle.code_language.specs.WellFormed.{starts_known}
-use Rattle.code_language.proofs.Accepted.{both_true}
 use Rattle.chart_code.specs.Kinds.{IsPath}
 use Rattle.chart_code.specs.Bodies.{procedures_of, code_of_chart}
 use Rattle.chart_code.specs.Places.{total, numbers}
@@ -40,7 +39,7 @@ module _ (c : Chart) (valid : IsValid c) where
   -- those that are called first are there
   pub starts : starts_known (code_of_chart c).procedures ≡ true
   unfolding code_of_chart procedures_of
-  starts = both_true
+  starts = and_from
       (nat_lt ((numbers c).enter 0 0) (length (procedures_of c).procs))
       (nat_lt ((numbers c).process 0) (length (procedures_of c).procs))
       (there ((numbers c).enter 0 0) (enter_there c valid 0 0 root))

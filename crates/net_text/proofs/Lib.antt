@@ -1,4 +1,3 @@
-pub mod CutLemmas
 pub mod FileLemmas
 pub mod LimitLemmas
 pub mod RepeatLemmas

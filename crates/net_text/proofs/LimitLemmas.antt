@@ -22,7 +22,7 @@ use Rattle.net_text.specs.Fields.{route_of_line, chart_of_line}
 use Rattle.net_text.specs.NetTexts.{NetText, names_of, first_repeat, IsRouteWithin, IsNetText, net_text_of}
 use Rattle.net_text.specs.Views.{Answers}
 use Rattle.net_text.specs.declared.net.NetText as declared
-use Rattle.net_text.specs.Lines.{cut_of}
+use Rattle.code_fields.specs.Lines.{cut_of}
 use Rattle.net_text.specs.Reading.{Partial, nothing_read, chart_next, route_next, with_chart_count, with_route_count}
 use Rattle.net_text.specs.Reading.{with_chart, with_route, next_at, next, or_refuse, refusal, has_ended, all_read}
 use Rattle.net_text.specs.Reading.{outcome_from, outcome_of, unless_repeated, with_own_names, net_of_text}

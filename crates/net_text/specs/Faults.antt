@@ -1,5 +1,6 @@
 -- How the faults of a net text are printed.
 use Rattle.std.specs.Prelude.{ℕ, List, [], ◌++◌, Option, Some, None, codes, decimal}
+use Rattle.code_fields.specs.Lines.{line_words}
 use Rattle.net_text.specs.declared.fault.NetFault.{NetFault}
 use Rattle.net_text.specs.declared.fault.NetFault.TheVariants as faults
 
@@ -32,11 +33,6 @@ fault_line (faults.BadRoute line) = Some line
 fault_line (faults.NameTwice line) = Some line
 fault_line faults.TextTooLong = None
 fault_line faults.Memory = None
-
--- a line after a space
-abbrev pub line_words : Option ℕ → List ℕ
-line_words None = []
-line_words (Some line) = codes " " ++ decimal line
 
 -- the line, number and name of a fault
 abbrev pub fault_words : NetFault → List ℕ

@@ -1,4 +1,3 @@
-pub mod Lines
 pub mod NetTexts
 pub mod Fields
 pub mod Reading

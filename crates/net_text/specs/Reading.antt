@@ -10,7 +10,7 @@ use Rattle.net_text.specs.declared.limits.TheConstants.{NET_TEXT_LIMIT, CHART_LI
 use Rattle.net_text.specs.declared.net.NetChart.{NetChart}
 use Rattle.net_text.specs.declared.net.RouteText.{RouteText}
 use Rattle.net_text.specs.Fields.{count_behind, chart_of_line, route_of_line}
-use Rattle.net_text.specs.Lines.{cut_of}
+use Rattle.code_fields.specs.Lines.{cut_of}
 use Rattle.net_text.specs.NetTexts.{NetText, names_of, first_repeat}
 
 -- ---- what was read

@@ -4,6 +4,7 @@ ghost use Rattle.arrayvec.specs.ArrayString.{array_string_len};
 ghost use Rattle.net_text.specs.Faults as spec;
 
 use arrayvec::ArrayString;
+use code_fields::push_line;
 use itoa::Buffer;
 use thiserror::Error;
 
@@ -105,18 +106,5 @@ impl NetFault {
         text.push_str(digits.format(self.number()));
         text.push_str(" ");
         text.push_str(self.name());
-    }
-}
-
-/// Appends a space and the line, if there is one.
-fn push_line(text: &mut ArrayString<NET_FAULT_ROOM>, line: Option<u32>)
-    requires { array_string_len text.old ≤ 3 }
-    ensures bytes { text.new.bytes ≡ text.old.bytes ++ spec.line_words line }
-    ensures short { array_string_len text.new ≤ array_string_len text.old + 1 + 40 }
-{
-    if let Some(line) = line {
-        let mut digits = Buffer::new();
-        text.push_str(" ");
-        text.push_str(digits.format(line));
     }
 }

@@ -1,7 +1,5 @@
 //! A net from its text.
-ghost use Rattle.std.specs.Prelude.{◌≡◌, ◌≢◌, ◌<◌, ◌≤◌, [], length, IfSome, IfOk, IfErr, Ok, Err};
-ghost use Rattle.std.specs.Prelude.{MatchOption};
-ghost use Rattle.net_text.specs.Lines.{cut_of, line_then};
+ghost use Rattle.std.specs.Prelude.{◌≡◌, ◌≢◌, ◌≤◌, length, IfOk, IfErr, Ok, Err};
 ghost use Rattle.net_text.specs.NetTexts.{net_text_of, IsNetText};
 ghost use Rattle.net_text.specs.Reading as spec;
 ghost use Rattle.net_text.specs.Views.{partial_of, Answers};
@@ -12,7 +10,7 @@ use crate::limits::NET_TEXT_LIMIT;
 use crate::net::NetText;
 use crate::partial::Partial;
 use crate::repeats::first_repeat;
-use code_fields::{Parts, cut_at};
+use code_fields::next_line;
 use std::alloc::Global;
 
 /// The line of the first chart.
@@ -68,15 +66,6 @@ fn read_lines(alloc: Global, text: &[u8]) -> Result<NetText, NetFault>
         number += 1;
     }
     read_to_end(partial, number, rest)
-}
-
-/// The first line of a text, and what stands after it.
-fn next_line(text: &[u8]) -> Option<Parts<'_>>
-    ensures line { MatchOption result (cut_of text.now ≡ record { lines = []; rest = text.now })
-        (λ parts. cut_of text.now ≡ line_then parts.front.now (cut_of parts.rest.now)) }
-    ensures shorter { IfSome result (λ parts. length parts.rest.now < length text.now) }
-{
-    cut_at(text, b'\n')
 }
 
 /// Why the line of that number can't stand.

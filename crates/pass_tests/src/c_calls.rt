@@ -1,6 +1,6 @@
 //! A code of which some procedures can fail and one can't.
 use crate::setup::{accepted, doing, list, no_event};
-use c_expression_writer::Tests;
+use c_shape::Tests;
 use c_tests::tests_of;
 use code_language::Instr;
 use flow_base::List;

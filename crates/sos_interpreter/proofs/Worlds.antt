@@ -5,7 +5,6 @@ use Rattle.std.specs.List.{AllByRecursion}
 use Rattle.flow_base.specs.declared.bounds.Bounds.{Bounds}
 use Rattle.flow_base.specs.declared.fault.Fault.{Fault}
 use Rattle.flow_base.specs.declared.fault.Fault.TheVariants.{Steps}
-use Rattle.active_config.specs.declared.comp.Comp.{Comp}
 use Rattle.active_config.specs.Tree.{Tree, parent_of, comp_of}
 use Rattle.active_config.specs.Marks.{Configuration, IsConsistent}
 use Rattle.std.specs.Prelude.{◌&&◌}
@@ -15,10 +14,9 @@ use Rattle.std.specs.Prelude.{Option, IfSome}
 use Rattle.active_config.specs.Tree.{IsTree, state_count}
 use Rattle.checked_chart.proofs.Trees.{child_is}
 use Rattle.std.specs.List.{find}
-use Rattle.std.specs.Option.{option_map_or}
 use Rattle.std.specs.Prelude.{IsSomeAnd, if◌then◌else◌}
 use Rattle.active_config.specs.Tree.{children_of}
-use Rattle.checked_chart.specs.Chart.{Chart, node, is_or, has_history, is_remembered, may_return}
+use Rattle.checked_chart.specs.Chart.{Chart, has_history, is_remembered, may_return}
 use Rattle.actions.specs.Changes.{set_mark, keep_in}
 use Rattle.sos_rules.specs.Moves.{entered_in, remembered}
 use Rattle.sos_rules.proofs.MarkedStates.{remembering_parent, history_or, entered_done}
@@ -187,26 +185,6 @@ assign_did v e w w' value vals answer r same is q taken refused kept =
     (assign_does v e w value vals answer (sym q) taken refused kept))
 
 -- ---- history
-
--- an OR has history where its node says so
-pub or_history : (c : Chart) (s : ℕ) → comp_of c.tree s ≡ Or → has_history c s ≡ (node c s).history
-unfolding has_history
-or_history c s e = ap (λ o. is_or o && (node c s).history) e
-
--- a state that is no OR has none
-pub no_history : (c : Chart) (s : ℕ) (o : Comp) → is_or o ≡ false → comp_of c.tree s ≡ o → has_history c s ≡ false
-unfolding has_history
-no_history c s o none e = ap (λ o. is_or o && (node c s).history) e ∙ ap (λ b. b && (node c s).history) none
-
--- a state is remembered where its parent has history
-pub remembered_by : (c : Chart) (s p : ℕ) → parent_of c.tree s ≡ Some p → is_remembered c s ≡ has_history c p
-unfolding is_remembered
-remembered_by c s p e = ap (λ o. option_map_or (has_history c) o false) e
-
--- the root isn't remembered
-pub remembered_none : (c : Chart) (s : ℕ) → parent_of c.tree s ≡ None → is_remembered c s ≡ false
-unfolding is_remembered
-remembered_none c s e = ap (λ o. option_map_or (has_history c) o false) e
 
 -- a state without history remembers no child
 pub remembers_none : (c : Chart) (s : ℕ) (w : World) → has_history c s ≡ false → None ≡ remembered c s w

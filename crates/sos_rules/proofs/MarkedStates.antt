@@ -10,6 +10,7 @@ use Rattle.std.specs.Option.{option_map_or}
 use Rattle.active_config.specs.declared.comp.Comp.{Comp}
 use Rattle.active_config.specs.declared.comp.Comp.TheVariants.{Leaf, Or, And}
 use Rattle.active_config.specs.Tree.{Tree, IsTree, state_count, parent_of, comp_of, children_of, is_at_or_below}
+use Rattle.active_config.specs.Tree.{is_or}
 use Rattle.active_config.specs.Marks.{Configuration, mark_count, is_on, is_bare, active_child, with_mark}
 use Rattle.active_config.specs.Marks.{parent_takes_child, can_mark, IsConsistent}
 use Rattle.active_config.proofs.MarksLemmas as MarksLemmas
@@ -17,7 +18,7 @@ use Rattle.active_config.proofs.MarksLemmas.{marked, is_on-with_mark_same, is_on
 use Rattle.active_config.proofs.MarksLemmas.{is_on-with_last, is_bare-with_last}
 use Rattle.actions.specs.World.{World}
 use Rattle.actions.specs.Changes.{set_mark, keep_in}
-use Rattle.checked_chart.specs.Chart.{Chart, has_history, is_remembered, may_return, node, is_or}
+use Rattle.checked_chart.specs.Chart.{Chart, has_history, is_remembered, may_return, node}
 use Rattle.checked_chart.proofs.Trees.{IsChild, parent_below, children_are, all_map, find_all}
 use Rattle.sos_rules.specs.Moves.{keep_if, entered_in}
 

@@ -10,27 +10,24 @@ ghost use Rattle.chart_code.specs.StateProcedures as templates;
 ghost use Rattle.chart_code.specs.Places.{numbers};
 ghost use Rattle.chart_code.specs.Keys as keys;
 ghost use Rattle.chart_code.specs.Bodies.{body};
-ghost use Rattle.continuation_compile.specs.Drafts.{Instrs, code_seen, procs_of};
-ghost use Rattle.continuation_compile.specs.Numberings.{chart_in, IsNumbering};
+ghost use Rattle.list_compile.specs.Drafts.{Instrs, code_seen, procs_of};
+ghost use Rattle.list_compile.specs.Numberings.{chart_in};
 
 use crate::children::children;
 use crate::firings::put_toward;
 use active_config::Comp;
 use checked_chart::ListKind;
 use code_language::{Cond, Instr};
-use continuation_compile::number_offsets::{ACTION_COUNT, ENTRY_START};
-use continuation_compile::results::DONE;
-use continuation_compile::{
-    Draft, Numbering, append, put, put_call, put_refuse, put_require, put_return,
-};
 use flow_base::{List, Memory};
+use list_compile::number_offsets::{ACTION_COUNT, ENTRY_START};
+use list_compile::results::DONE;
+use list_compile::{Draft, Numbering, append, put, put_call, put_refuse, put_require, put_return};
 use std::alloc::Global;
 
 /// The number of the procedure of the entry action of a state.
 #[tactic(auto, unfolding(chart_code::specs::Places::numbers))]
 fn entry_action(numbering: &Numbering<'_>, state: u32) -> u32
-    requires numbers { IsNumbering numbering.now }
-    requires state { state < state_count (chart_in numbering.now).tree }
+    requires { state < state_count (chart_in numbering.now).tree }
     ensures { result ≡ (numbers (chart_in numbering.now)).entry state }
 {
     // Only the proof reads the number of states: it is small.
@@ -41,50 +38,22 @@ fn entry_action(numbering: &Numbering<'_>, state: u32) -> u32
 /// The number of the procedure of the default list of a state.
 #[tactic(auto, unfolding(chart_code::specs::Places::numbers))]
 fn default_list(numbering: &Numbering<'_>, state: u32) -> u32
-    requires numbers { IsNumbering numbering.now }
-    requires state { state < state_count (chart_in numbering.now).tree }
+    requires { state < state_count (chart_in numbering.now).tree }
     ensures { result ≡ (numbers (chart_in numbering.now)).search state Default }
 {
     numbering.list(state, ListKind::Default)
 }
 
-/// Whether a state has history. Only an OR does.
-#[tactic(auto, unfolding(checked_chart::specs::Chart::has_history))]
-fn has_history(numbering: &Numbering<'_>, state: u32) -> bool
-    requires numbers { IsNumbering numbering.now }
-    requires state { state < state_count (chart_in numbering.now).tree }
-    ensures { result ≡ charts.has_history (chart_in numbering.now) state }
-{
-    match numbering.chart.comp(state) {
-        Comp::Leaf | Comp::And => false,
-        Comp::Or => numbering.chart.history(state),
-    }
-}
-
-/// Whether the parent of a state has history.
-#[tactic(auto, unfolding(checked_chart::specs::Chart::is_remembered))]
-fn is_remembered(numbering: &Numbering<'_>, state: u32) -> bool
-    requires numbers { IsNumbering numbering.now }
-    requires state { state < state_count (chart_in numbering.now).tree }
-    ensures { result ≡ charts.is_remembered (chart_in numbering.now) state }
-{
-    match numbering.chart.parent(state) {
-        None => false,
-        Some(parent) => has_history(numbering, parent),
-    }
-}
-
 /// The children that a state may enter again by history.
 #[tactic(auto, unfolding(checked_chart::specs::Chart::may_return))]
 fn may_return(alloc: Global, numbering: &Numbering<'_>, state: u32) -> Result<List<u32>, Memory>
-    requires numbers { IsNumbering numbering.now }
-    requires state { state < state_count (chart_in numbering.now).tree }
+    requires { state < state_count (chart_in numbering.now).tree }
     ensures returns { IfOk result (λ list.
         items_of list ≡ charts.may_return (chart_in numbering.now) state) }
     ensures within { IfOk result (λ list.
         AllByRecursion (λ x. x < state_count (chart_in numbering.now).tree) (items_of list)) }
 {
-    if has_history(numbering, state) {
+    if numbering.chart.has_history(state) {
         return children(alloc, numbering.chart.shape(), state);
     }
     Ok(List::of(Vec::new(alloc)))
@@ -98,8 +67,7 @@ fn put_parent_test(
     numbering: &Numbering<'_>,
     state: u32,
 ) -> Result<(), Memory>
-    requires numbers { IsNumbering numbering.now }
-    requires state { state < state_count (chart_in numbering.now).tree }
+    requires { state < state_count (chart_in numbering.now).tree }
     ensures { OnOk result ((rest : Instrs) → code_seen code.new ++ rest ≡ code_seen code.old
         ++ templates.parent_test (chart_in numbering.now).tree
         (trees.parent_of (chart_in numbering.now).tree state) rest) }
@@ -115,12 +83,11 @@ fn put_parent_test(
 
 /// Appends that the parent of a state remembers it, where the parent has history.
 fn put_keep(code: &mut List<Instr>, numbering: &Numbering<'_>, state: u32) -> Result<(), Memory>
-    requires numbers { IsNumbering numbering.now }
-    requires state { state < state_count (chart_in numbering.now).tree }
+    requires { state < state_count (chart_in numbering.now).tree }
     ensures { OnOk result ((rest : Instrs) → code_seen code.new ++ rest ≡ code_seen code.old
         ++ templates.keep_code (charts.is_remembered (chart_in numbering.now) state) state rest) }
 {
-    if is_remembered(numbering, state) {
+    if numbering.chart.is_remembered(state) {
         put(code, Instr::Keep(state))?;
     }
     Ok(())
@@ -133,7 +100,6 @@ fn put_enters(
     dest: u32,
     children: &[u32],
 ) -> Result<(), Memory>
-    requires numbers { IsNumbering numbering.now }
     requires dest { dest < state_count (chart_in numbering.now).tree }
     requires within { AllByRecursion (λ x. x < state_count (chart_in numbering.now).tree)
         children.now }
@@ -156,7 +122,6 @@ fn put_inside(
     state: u32,
     dest: u32,
 ) -> Result<(), Memory>
-    requires numbers { IsNumbering numbering.now }
     requires state { state < state_count (chart_in numbering.now).tree }
     requires dest { dest < state_count (chart_in numbering.now).tree }
     ensures { OnOk result (code_seen code.new ≡ code_seen code.old
@@ -181,7 +146,6 @@ fn put_active(
     state: u32,
     dest: u32,
 ) -> Result<(), Memory>
-    requires numbers { IsNumbering numbering.now }
     requires state { state < state_count (chart_in numbering.now).tree }
     requires dest { dest < state_count (chart_in numbering.now).tree }
     ensures { OnOk result (code_seen code.new ≡ code_seen code.old
@@ -201,7 +165,6 @@ fn put_entry(
     state: u32,
     dest: u32,
 ) -> Result<(), Memory>
-    requires numbers { IsNumbering numbering.now }
     requires state { state < state_count (chart_in numbering.now).tree }
     requires dest { dest < state_count (chart_in numbering.now).tree }
     ensures { OnOk result (code_seen code.new ≡ code_seen code.old
@@ -221,7 +184,6 @@ pub(crate) fn append_enter(
     state: u32,
     dest: u32,
 ) -> Result<(), Memory>
-    requires numbers { IsNumbering numbering.now }
     requires state { state < state_count (chart_in numbering.now).tree }
     requires dest { dest < state_count (chart_in numbering.now).tree }
     ensures { OnOk result (procs_of draft.new ≡ procs_of draft.old
@@ -243,8 +205,7 @@ fn put_return_to(
     numbering: &Numbering<'_>,
     children: &[u32],
 ) -> Result<(), Memory>
-    requires numbers { IsNumbering numbering.now }
-    requires within { AllByRecursion (λ x. x < state_count (chart_in numbering.now).tree)
+    requires { AllByRecursion (λ x. x < state_count (chart_in numbering.now).tree)
         children.now }
     ensures { OnOk result ((rest : Instrs) → code_seen code.new ++ rest ≡ code_seen code.old
         ++ templates.return_code (numbers (chart_in numbering.now)) children.now rest) }
@@ -259,8 +220,7 @@ fn put_return_to(
 
 /// Appends that the default list of a state is searched.
 fn put_search(code: &mut List<Instr>, numbering: &Numbering<'_>, state: u32) -> Result<(), Memory>
-    requires numbers { IsNumbering numbering.now }
-    requires state { state < state_count (chart_in numbering.now).tree }
+    requires { state < state_count (chart_in numbering.now).tree }
     ensures { OnOk result (code_seen code.new ≡ code_seen code.old
         ++ templates.search_code (numbers (chart_in numbering.now)) state) }
 {
@@ -275,8 +235,7 @@ pub(crate) fn append_defaults(
     numbering: &Numbering<'_>,
     state: u32,
 ) -> Result<(), Memory>
-    requires numbers { IsNumbering numbering.now }
-    requires state { state < state_count (chart_in numbering.now).tree }
+    requires { state < state_count (chart_in numbering.now).tree }
     ensures { OnOk result (procs_of draft.new ≡ procs_of draft.old
         ++ body (chart_in numbering.now) (keys.Defaults state) ∷ []) }
 {

@@ -7,23 +7,22 @@ ghost use Rattle.chart_code.specs.StateProcedures as templates;
 ghost use Rattle.chart_code.specs.Bodies.{body};
 ghost use Rattle.chart_code.specs.Keys as keys;
 ghost use Rattle.chart_code.specs.Places.{numbers};
-ghost use Rattle.continuation_compile.specs.Drafts.{code_seen, procs_of};
-ghost use Rattle.continuation_compile.specs.Numberings.{chart_in, IsNumbering};
+ghost use Rattle.list_compile.specs.Drafts.{code_seen, procs_of};
+ghost use Rattle.list_compile.specs.Numberings.{chart_in};
 
 use crate::children::children;
 use active_config::Comp;
 use code_language::{Cond, Instr};
-use continuation_compile::number_offsets::{ACTION_COUNT, EXIT_ACTION_START, EXIT_OFFSET};
-use continuation_compile::results::DONE;
-use continuation_compile::{Draft, Numbering, append, put, put_call, put_require, put_return};
 use flow_base::{List, Memory};
+use list_compile::number_offsets::{ACTION_COUNT, EXIT_ACTION_START, EXIT_OFFSET};
+use list_compile::results::DONE;
+use list_compile::{Draft, Numbering, append, put, put_call, put_require, put_return};
 use std::alloc::Global;
 
 /// The number of the procedure of the exit action of a state.
 #[tactic(auto, unfolding(chart_code::specs::Places::numbers))]
 fn exit_action(numbering: &Numbering<'_>, state: u32) -> u32
-    requires numbers { IsNumbering numbering.now }
-    requires state { state < state_count (chart_in numbering.now).tree }
+    requires { state < state_count (chart_in numbering.now).tree }
     ensures { result ≡ (numbers (chart_in numbering.now)).exit_action state }
 {
     // Only the proof reads the number of states: it is small.
@@ -34,8 +33,7 @@ fn exit_action(numbering: &Numbering<'_>, state: u32) -> u32
 /// The number of the procedure by which the children of a state are left.
 #[tactic(auto, unfolding(chart_code::specs::Places::numbers))]
 fn leave(numbering: &Numbering<'_>, state: u32) -> u32
-    requires numbers { IsNumbering numbering.now }
-    requires state { state < state_count (chart_in numbering.now).tree }
+    requires { state < state_count (chart_in numbering.now).tree }
     ensures { result ≡ (numbers (chart_in numbering.now)).leave state }
 {
     numbering.group(state)
@@ -44,8 +42,7 @@ fn leave(numbering: &Numbering<'_>, state: u32) -> u32
 /// The number of the procedure by which a state is left.
 #[tactic(auto, unfolding(chart_code::specs::Places::numbers))]
 fn exit(numbering: &Numbering<'_>, state: u32) -> u32
-    requires numbers { IsNumbering numbering.now }
-    requires state { state < state_count (chart_in numbering.now).tree }
+    requires { state < state_count (chart_in numbering.now).tree }
     ensures { result ≡ (numbers (chart_in numbering.now)).exit state }
 {
     numbering.group(state) + EXIT_OFFSET
@@ -57,8 +54,7 @@ fn put_where_active(
     numbering: &Numbering<'_>,
     child: u32,
 ) -> Result<(), Memory>
-    requires numbers { IsNumbering numbering.now }
-    requires child { child < state_count (chart_in numbering.now).tree }
+    requires { child < state_count (chart_in numbering.now).tree }
     ensures { OnOk result (code_seen code.new ≡ code_seen code.old
         ++ instrs.Unless 2 (instrs.On child)
         ∷ templates.call ((numbers (chart_in numbering.now)).exit child) ∷ instrs.Ret DONE ∷ []) }
@@ -74,8 +70,7 @@ fn put_active(
     numbering: &Numbering<'_>,
     states: &[u32],
 ) -> Result<(), Memory>
-    requires numbers { IsNumbering numbering.now }
-    requires within { AllByRecursion (λ x. x < state_count (chart_in numbering.now).tree) states.now }
+    requires { AllByRecursion (λ x. x < state_count (chart_in numbering.now).tree) states.now }
     ensures { OnOk result (code_seen code.new ≡ code_seen code.old
         ++ templates.active_code (numbers (chart_in numbering.now)).exit states.now) }
 {
@@ -87,8 +82,7 @@ fn put_active(
 
 /// Appends how each of these states is left, the last one first.
 fn put_each(code: &mut List<Instr>, numbering: &Numbering<'_>, states: &[u32]) -> Result<(), Memory>
-    requires numbers { IsNumbering numbering.now }
-    requires within { AllByRecursion (λ x. x < state_count (chart_in numbering.now).tree) states.now }
+    requires { AllByRecursion (λ x. x < state_count (chart_in numbering.now).tree) states.now }
     ensures { OnOk result (code_seen code.new ≡ code_seen code.old
         ++ templates.each_code (numbers (chart_in numbering.now)).exit (reverse states.now)) }
 {
@@ -105,7 +99,6 @@ fn put_leave(
     state: u32,
     states: &[u32],
 ) -> Result<(), Memory>
-    requires numbers { IsNumbering numbering.now }
     requires state { state < state_count (chart_in numbering.now).tree }
     requires children { states.now ≡ children_of (chart_in numbering.now).tree state }
     requires within { AllByRecursion (λ x. x < state_count (chart_in numbering.now).tree) states.now }
@@ -127,8 +120,7 @@ pub(crate) fn append_leave(
     numbering: &Numbering<'_>,
     state: u32,
 ) -> Result<(), Memory>
-    requires numbers { IsNumbering numbering.now }
-    requires state { state < state_count (chart_in numbering.now).tree }
+    requires { state < state_count (chart_in numbering.now).tree }
     ensures { OnOk result (procs_of draft.new ≡ procs_of draft.old
         ++ body (chart_in numbering.now) (keys.Leave state) ∷ []) }
 {
@@ -144,8 +136,7 @@ fn put_exit_start(
     numbering: &Numbering<'_>,
     state: u32,
 ) -> Result<(), Memory>
-    requires numbers { IsNumbering numbering.now }
-    requires state { state < state_count (chart_in numbering.now).tree }
+    requires { state < state_count (chart_in numbering.now).tree }
     ensures { OnOk result (code_seen code.new ≡ code_seen code.old
         ++ instrs.Home state ∷ templates.require instrs.OnHome
         (templates.call ((numbers (chart_in numbering.now)).leave state)
@@ -159,8 +150,7 @@ fn put_exit_start(
 
 /// Appends the exit action, after which the state is no longer active.
 fn put_exit_end(code: &mut List<Instr>, numbering: &Numbering<'_>, state: u32) -> Result<(), Memory>
-    requires numbers { IsNumbering numbering.now }
-    requires state { state < state_count (chart_in numbering.now).tree }
+    requires { state < state_count (chart_in numbering.now).tree }
     ensures { OnOk result (code_seen code.new ≡ code_seen code.old
         ++ templates.call ((numbers (chart_in numbering.now)).exit_action state)
         ∷ instrs.Clear state ∷ instrs.Ret DONE ∷ []) }
@@ -172,8 +162,7 @@ fn put_exit_end(code: &mut List<Instr>, numbering: &Numbering<'_>, state: u32) -
 
 /// Appends the code by which a state is left.
 fn put_exit(code: &mut List<Instr>, numbering: &Numbering<'_>, state: u32) -> Result<(), Memory>
-    requires numbers { IsNumbering numbering.now }
-    requires state { state < state_count (chart_in numbering.now).tree }
+    requires { state < state_count (chart_in numbering.now).tree }
     ensures { OnOk result (code_seen code.new ≡ code_seen code.old
         ++ templates.exit_code (numbers (chart_in numbering.now)) state) }
 {
@@ -189,8 +178,7 @@ pub(crate) fn append_exit(
     numbering: &Numbering<'_>,
     state: u32,
 ) -> Result<(), Memory>
-    requires numbers { IsNumbering numbering.now }
-    requires state { state < state_count (chart_in numbering.now).tree }
+    requires { state < state_count (chart_in numbering.now).tree }
     ensures { OnOk result (procs_of draft.new ≡ procs_of draft.old
         ++ body (chart_in numbering.now) (keys.Exit state) ∷ []) }
 {

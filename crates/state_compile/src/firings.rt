@@ -4,13 +4,13 @@ ghost use Rattle.active_config.specs.Tree.{state_count};
 ghost use Rattle.checked_chart.specs.Homes as homes;
 ghost use Rattle.chart_code.specs.StateProcedures as templates;
 ghost use Rattle.chart_code.specs.Places.{numbers};
-ghost use Rattle.continuation_compile.specs.Drafts.{code_seen, procs_of};
-ghost use Rattle.continuation_compile.specs.Numberings.{chart_in, IsNumbering};
+ghost use Rattle.list_compile.specs.Drafts.{code_seen, procs_of};
+ghost use Rattle.list_compile.specs.Numberings.{chart_in};
 
 use code_language::{Cond, Instr};
-use continuation_compile::results::DONE;
-use continuation_compile::{Draft, Numbering, append, put, put_call, put_require, put_return};
 use flow_base::{List, Memory};
+use list_compile::results::DONE;
+use list_compile::{Draft, Numbering, append, put, put_call, put_require, put_return};
 use std::alloc::Global;
 
 /// Appends how a state is entered on the way to another one: by default where the way ends at it,
@@ -21,7 +21,6 @@ pub(crate) fn put_toward(
     state: u32,
     dest: u32,
 ) -> Result<(), Memory>
-    requires numbers { IsNumbering numbering.now }
     requires state { state < state_count (chart_in numbering.now).tree }
     requires dest { dest < state_count (chart_in numbering.now).tree }
     ensures { OnOk result (code_seen code.new ≡ code_seen code.old
@@ -49,7 +48,6 @@ pub(crate) fn append_arrive(
     state: u32,
     dest: u32,
 ) -> Result<(), Memory>
-    requires numbers { IsNumbering numbering.now }
     requires state { state < state_count (chart_in numbering.now).tree }
     requires dest { dest < state_count (chart_in numbering.now).tree }
     ensures { OnOk result (procs_of draft.new ≡ procs_of draft.old
@@ -73,7 +71,6 @@ pub(crate) fn append_take(
     state: u32,
     dest: u32,
 ) -> Result<(), Memory>
-    requires numbers { IsNumbering numbering.now }
     requires state { state < state_count (chart_in numbering.now).tree }
     requires dest { dest < state_count (chart_in numbering.now).tree }
     ensures { OnOk result (procs_of draft.new ≡ procs_of draft.old

@@ -6,16 +6,16 @@ ghost use Rattle.chart_code.specs.Ends.{below_count};
 ghost use Rattle.chart_code.specs.Orders.{span};
 ghost use Rattle.chart_code.specs.Keys as keys;
 ghost use Rattle.chart_code.specs.Bodies.{body};
-ghost use Rattle.continuation_compile.specs.Drafts.{procs_of};
-ghost use Rattle.continuation_compile.specs.Numberings.{chart_in, IsNumbering};
+ghost use Rattle.list_compile.specs.Drafts.{procs_of};
+ghost use Rattle.list_compile.specs.Numberings.{chart_in};
 
 use crate::entries::append_defaults;
 use crate::exits::{append_exit, append_leave};
 use crate::firings::append_arrive;
 use crate::pairs::{PairKey, append_pairs};
 use checked_chart::ListKind;
-use continuation_compile::{Draft, Numbering, append_list};
 use flow_base::Memory;
+use list_compile::{Draft, Numbering, append_list};
 use std::alloc::Global;
 
 /// Appends how a state is left, and the rest of a firing with this home to each state below it.
@@ -25,13 +25,14 @@ fn append_leaving(
     numbering: &Numbering<'_>,
     state: u32,
 ) -> Result<(), Memory>
-    requires numbers { IsNumbering numbering.now }
-    requires state { state < state_count (chart_in numbering.now).tree }
+    requires { state < state_count (chart_in numbering.now).tree }
     ensures { OnOk result (procs_of draft.new ≡ procs_of draft.old
         ++ map (body (chart_in numbering.now))
         (keys.Leave state ∷ keys.Exit state
         ∷ span (keys.Arrive state) (suc state) (below_count (chart_in numbering.now).tree state))) }
 {
+    // Only the proof reads the number of states: the chart is valid.
+    let _ = numbering.states();
     append_leave(alloc, draft, numbering, state)?;
     append_exit(alloc, draft, numbering, state)?;
     append_pairs(alloc, draft, numbering, PairKey::Arrive, state, state + 1)?;
@@ -46,8 +47,7 @@ fn append_by_default(
     numbering: &Numbering<'_>,
     state: u32,
 ) -> Result<(), Memory>
-    requires numbers { IsNumbering numbering.now }
-    requires state { state < state_count (chart_in numbering.now).tree }
+    requires { state < state_count (chart_in numbering.now).tree }
     ensures { OnOk result (procs_of draft.new ≡ procs_of draft.old
         ++ map (body (chart_in numbering.now))
         (keys.search_keys (chart_in numbering.now) state Default
@@ -66,13 +66,14 @@ fn append_taking(
     numbering: &Numbering<'_>,
     state: u32,
 ) -> Result<(), Memory>
-    requires numbers { IsNumbering numbering.now }
-    requires state { state < state_count (chart_in numbering.now).tree }
+    requires { state < state_count (chart_in numbering.now).tree }
     ensures { OnOk result (procs_of draft.new ≡ procs_of draft.old
         ++ map (body (chart_in numbering.now))
         (span (keys.Take state) state (suc (below_count (chart_in numbering.now).tree state))
         ++ span (keys.Enter state) state (suc (below_count (chart_in numbering.now).tree state)))) }
 {
+    // Only the proof reads the number of states: the chart is valid.
+    let _ = numbering.states();
     append_pairs(alloc, draft, numbering, PairKey::Take, state, state)?;
     append_pairs(alloc, draft, numbering, PairKey::Enter, state, state)?;
     Ok(())
@@ -85,8 +86,7 @@ pub(crate) fn append_group(
     numbering: &Numbering<'_>,
     state: u32,
 ) -> Result<(), Memory>
-    requires numbers { IsNumbering numbering.now }
-    requires state { state < state_count (chart_in numbering.now).tree }
+    requires { state < state_count (chart_in numbering.now).tree }
     ensures { OnOk result (procs_of draft.new ≡ procs_of draft.old
         ++ map (body (chart_in numbering.now)) (keys.group_keys (chart_in numbering.now) state)) }
 {

@@ -5,14 +5,14 @@ ghost use Rattle.active_config.specs.Tree.{state_count};
 ghost use Rattle.chart_code.specs.Bodies.{body};
 ghost use Rattle.chart_code.specs.Ends.{end_of};
 ghost use Rattle.chart_code.specs.Orders.{span};
-ghost use Rattle.continuation_compile.specs.Drafts.{procs_of};
-ghost use Rattle.continuation_compile.specs.Numberings.{chart_in, IsNumbering};
+ghost use Rattle.list_compile.specs.Drafts.{procs_of};
+ghost use Rattle.list_compile.specs.Numberings.{chart_in};
 ghost use Rattle.state_compile.specs.Keyed.{pair_key};
 
 use crate::entries::append_enter;
 use crate::firings::{append_arrive, append_take};
-use continuation_compile::{Draft, Numbering};
 use flow_base::Memory;
+use list_compile::{Draft, Numbering};
 use std::alloc::Global;
 
 /// What a procedure of a state for another state does.
@@ -35,7 +35,6 @@ fn append_pair(
     state: u32,
     dest: u32,
 ) -> Result<(), Memory>
-    requires numbers { IsNumbering numbering.now }
     requires state { state < state_count (chart_in numbering.now).tree }
     requires dest { dest < state_count (chart_in numbering.now).tree }
     ensures { OnOk result (procs_of draft.new ≡ procs_of draft.old
@@ -50,9 +49,9 @@ fn append_pair(
 
 /// The number after the last state that is at or below a state.
 fn end(numbering: &Numbering<'_>, state: u32) -> u32
-    requires numbers { IsNumbering numbering.now }
-    requires state { state < state_count (chart_in numbering.now).tree }
+    requires { state < state_count (chart_in numbering.now).tree }
     ensures end { result ≡ end_of (chart_in numbering.now).tree state }
+    ensures within { result ≤ state_count (chart_in numbering.now).tree }
     ensures few { result ≤ STATE_LIMIT }
 {
     // Only the proof reads the number of states: it is small.
@@ -69,8 +68,7 @@ pub(crate) fn append_pairs(
     state: u32,
     first: u32,
 ) -> Result<(), Memory>
-    requires numbers { IsNumbering numbering.now }
-    requires state { state < state_count (chart_in numbering.now).tree }
+    requires { state < state_count (chart_in numbering.now).tree }
     ensures { OnOk result (procs_of draft.new ≡ procs_of draft.old
         ++ map (body (chart_in numbering.now))
         (span (pair_key key state) first (end_of (chart_in numbering.now).tree state - first))) }

@@ -8,26 +8,25 @@ ghost use Rattle.chart_code.specs.StateProcedures as templates;
 ghost use Rattle.chart_code.specs.Bodies.{body};
 ghost use Rattle.chart_code.specs.Keys as keys;
 ghost use Rattle.chart_code.specs.Places.{numbers};
-ghost use Rattle.continuation_compile.specs.Drafts.{code_seen, procs_of};
-ghost use Rattle.continuation_compile.specs.Numberings.{chart_in, IsNumbering};
+ghost use Rattle.list_compile.specs.Drafts.{code_seen, procs_of};
+ghost use Rattle.list_compile.specs.Numberings.{chart_in};
 
 use crate::children::children;
 use active_config::Comp;
 use checked_chart::ListKind;
 use code_language::{Cond, Instr};
-use continuation_compile::number_offsets::{ACTION_COUNT, DURING_START};
-use continuation_compile::results::{DONE, FIRST_HOME};
-use continuation_compile::{
+use flow_base::{List, Memory};
+use list_compile::number_offsets::{ACTION_COUNT, DURING_START};
+use list_compile::results::{DONE, FIRST_HOME};
+use list_compile::{
     Draft, Numbering, append, put, put_call, put_require, put_return, put_unless_found,
 };
-use flow_base::{List, Memory};
 use std::alloc::Global;
 
 /// The number of the procedure of the during action of a state.
 #[tactic(auto, unfolding(chart_code::specs::Places::numbers))]
 fn during(numbering: &Numbering<'_>, state: u32) -> u32
-    requires numbers { IsNumbering numbering.now }
-    requires state { state < state_count (chart_in numbering.now).tree }
+    requires { state < state_count (chart_in numbering.now).tree }
     ensures { result ≡ (numbers (chart_in numbering.now)).during state }
 {
     // Only the proof reads the number of states: it is small.
@@ -38,8 +37,7 @@ fn during(numbering: &Numbering<'_>, state: u32) -> u32
 /// The number of the procedure of a list.
 #[tactic(auto, unfolding(chart_code::specs::Places::numbers))]
 fn search(numbering: &Numbering<'_>, state: u32, kind: ListKind) -> u32
-    requires numbers { IsNumbering numbering.now }
-    requires state { state < state_count (chart_in numbering.now).tree }
+    requires { state < state_count (chart_in numbering.now).tree }
     ensures { result ≡ (numbers (chart_in numbering.now)).search state kind }
 {
     numbering.list(state, kind)
@@ -47,8 +45,7 @@ fn search(numbering: &Numbering<'_>, state: u32, kind: ListKind) -> u32
 
 /// What a procedure returns after a firing with this home.
 fn out(numbering: &Numbering<'_>, home: u32) -> u32
-    requires numbers { IsNumbering numbering.now }
-    requires home { home < state_count (chart_in numbering.now).tree }
+    requires { home < state_count (chart_in numbering.now).tree }
     ensures { result ≡ templates.went_result (Out home) }
 {
     // Only the proof reads the number of states: it is small.
@@ -64,8 +61,7 @@ fn put_child(
     state: u32,
     child: u32,
 ) -> Result<(), Memory>
-    requires numbers { IsNumbering numbering.now }
-    requires state { state < state_count (chart_in numbering.now).tree }
+    requires { state < state_count (chart_in numbering.now).tree }
     ensures { OnOk result (code_seen code.new ≡ code_seen code.old
         ++ instrs.Unless 4 (instrs.On child)
         ∷ templates.call ((numbers (chart_in numbering.now)).process child)
@@ -86,8 +82,7 @@ fn put_active_child(
     state: u32,
     states: &[u32],
 ) -> Result<(), Memory>
-    requires numbers { IsNumbering numbering.now }
-    requires state { state < state_count (chart_in numbering.now).tree }
+    requires { state < state_count (chart_in numbering.now).tree }
     ensures { OnOk result (code_seen code.new ≡ code_seen code.old
         ++ templates.active_child_code (numbers (chart_in numbering.now)) state states.now) }
 {
@@ -100,7 +95,6 @@ fn put_active_child(
 /// Appends how a child of an AND is processed where it is active. A firing that leads out of it is
 /// handed on.
 fn put_region(code: &mut List<Instr>, numbering: &Numbering<'_>, child: u32) -> Result<(), Memory>
-    requires numbers { IsNumbering numbering.now }
     ensures { OnOk result (code_seen code.new ≡ code_seen code.old
         ++ instrs.Unless 4 (instrs.On child)
         ∷ templates.call ((numbers (chart_in numbering.now)).process child)
@@ -119,7 +113,6 @@ fn put_regions(
     numbering: &Numbering<'_>,
     states: &[u32],
 ) -> Result<(), Memory>
-    requires numbers { IsNumbering numbering.now }
     ensures { OnOk result (code_seen code.new ≡ code_seen code.old
         ++ templates.regions_code (numbers (chart_in numbering.now)) states.now) }
 {
@@ -136,7 +129,6 @@ fn put_children(
     state: u32,
     states: &[u32],
 ) -> Result<(), Memory>
-    requires numbers { IsNumbering numbering.now }
     requires state { state < state_count (chart_in numbering.now).tree }
     requires children { states.now ≡ children_of (chart_in numbering.now).tree state }
     ensures { OnOk result (code_seen code.new ≡ code_seen code.old
@@ -152,8 +144,7 @@ fn put_children(
 
 /// Appends the search of the outer list, after which a firing is handed on.
 fn put_outer(code: &mut List<Instr>, numbering: &Numbering<'_>, state: u32) -> Result<(), Memory>
-    requires numbers { IsNumbering numbering.now }
-    requires state { state < state_count (chart_in numbering.now).tree }
+    requires { state < state_count (chart_in numbering.now).tree }
     ensures { OnOk result (code_seen code.new ≡ code_seen code.old
         ++ instrs.Home state
         ∷ templates.call ((numbers (chart_in numbering.now)).search state kinds.Outer)
@@ -166,8 +157,7 @@ fn put_outer(code: &mut List<Instr>, numbering: &Numbering<'_>, state: u32) -> R
 
 /// Appends the during action and the search of the inner list, after which a firing is handed on.
 fn put_inner(code: &mut List<Instr>, numbering: &Numbering<'_>, state: u32) -> Result<(), Memory>
-    requires numbers { IsNumbering numbering.now }
-    requires state { state < state_count (chart_in numbering.now).tree }
+    requires { state < state_count (chart_in numbering.now).tree }
     ensures { OnOk result (code_seen code.new ≡ code_seen code.old
         ++ templates.call ((numbers (chart_in numbering.now)).during state)
         ∷ templates.require instrs.OnHome
@@ -187,7 +177,6 @@ fn put_process(
     state: u32,
     states: &[u32],
 ) -> Result<(), Memory>
-    requires numbers { IsNumbering numbering.now }
     requires state { state < state_count (chart_in numbering.now).tree }
     requires children { states.now ≡ children_of (chart_in numbering.now).tree state }
     ensures { OnOk result (code_seen code.new ≡ code_seen code.old
@@ -207,8 +196,7 @@ pub(crate) fn append_process(
     numbering: &Numbering<'_>,
     state: u32,
 ) -> Result<(), Memory>
-    requires numbers { IsNumbering numbering.now }
-    requires state { state < state_count (chart_in numbering.now).tree }
+    requires { state < state_count (chart_in numbering.now).tree }
     ensures { OnOk result (procs_of draft.new ≡ procs_of draft.old
         ++ body (chart_in numbering.now) (keys.Process state) ∷ []) }
 {

@@ -4,15 +4,15 @@ ghost use Rattle.active_config.specs.Tree.{state_count};
 ghost use Rattle.chart_code.specs.Bodies.{body};
 ghost use Rattle.chart_code.specs.Keys as keys;
 ghost use Rattle.chart_code.specs.Orders.{ascending, descending};
-ghost use Rattle.continuation_compile.specs.Drafts.{procs_of};
-ghost use Rattle.continuation_compile.specs.Numberings.{chart_in, IsNumbering};
+ghost use Rattle.list_compile.specs.Drafts.{procs_of};
+ghost use Rattle.list_compile.specs.Numberings.{chart_in};
 ghost use Rattle.state_compile.specs.Keyed.{keys_of};
 
 use crate::groups::append_group;
 use crate::processes::append_process;
 use checked_chart::{BlockKind, ListKind};
-use continuation_compile::{Draft, Lasting, Numbering, append_block, append_list, append_parts};
 use flow_base::Memory;
+use list_compile::{Draft, Lasting, Numbering, append_block, append_list, append_parts};
 use std::alloc::Global;
 
 /// The procedures that are appended together for one state.
@@ -37,8 +37,7 @@ fn append_actions_of(
     numbering: &Numbering<'_>,
     state: u32,
 ) -> Result<(), Memory>
-    requires numbers { IsNumbering numbering.now }
-    requires state { state < state_count (chart_in numbering.now).tree }
+    requires { state < state_count (chart_in numbering.now).tree }
     ensures { OnOk result (procs_of draft.new ≡ procs_of draft.old
         ++ map (body (chart_in numbering.now)) (keys.action_keys_of state)) }
 {
@@ -58,8 +57,7 @@ fn append_parts_of_state(
     numbering: &Numbering<'_>,
     state: u32,
 ) -> Result<(), Memory>
-    requires numbers { IsNumbering numbering.now }
-    requires state { state < state_count (chart_in numbering.now).tree }
+    requires { state < state_count (chart_in numbering.now).tree }
     ensures { OnOk result (procs_of draft.new ≡ procs_of draft.old
         ++ map (body (chart_in numbering.now))
         (keys.state_parts_keys (chart_in numbering.now) state)) }
@@ -80,8 +78,7 @@ fn append_lists_of(
     numbering: &Numbering<'_>,
     state: u32,
 ) -> Result<(), Memory>
-    requires numbers { IsNumbering numbering.now }
-    requires state { state < state_count (chart_in numbering.now).tree }
+    requires { state < state_count (chart_in numbering.now).tree }
     ensures { OnOk result (procs_of draft.new ≡ procs_of draft.old
         ++ map (body (chart_in numbering.now)) (keys.lists_keys (chart_in numbering.now) state)) }
 {
@@ -97,8 +94,7 @@ fn append_keys(
     kind: StateKeys,
     state: u32,
 ) -> Result<(), Memory>
-    requires numbers { IsNumbering numbering.now }
-    requires state { state < state_count (chart_in numbering.now).tree }
+    requires { state < state_count (chart_in numbering.now).tree }
     ensures { OnOk result (procs_of draft.new ≡ procs_of draft.old
         ++ map (body (chart_in numbering.now)) (keys_of (chart_in numbering.now) kind state)) }
 {
@@ -118,7 +114,6 @@ pub(crate) fn append_ascending(
     numbering: &Numbering<'_>,
     kind: StateKeys,
 ) -> Result<(), Memory>
-    requires numbers { IsNumbering numbering.now }
     ensures { OnOk result (procs_of draft.new ≡ procs_of draft.old
         ++ map (body (chart_in numbering.now)) (ascending (keys_of (chart_in numbering.now) kind)
         (state_count (chart_in numbering.now).tree))) }
@@ -136,7 +131,6 @@ pub(crate) fn append_descending(
     numbering: &Numbering<'_>,
     kind: StateKeys,
 ) -> Result<(), Memory>
-    requires numbers { IsNumbering numbering.now }
     ensures { OnOk result (procs_of draft.new ≡ procs_of draft.old
         ++ map (body (chart_in numbering.now)) (descending (keys_of (chart_in numbering.now) kind)
         (state_count (chart_in numbering.now).tree))) }
@@ -153,7 +147,6 @@ pub(crate) fn append_junction_parts(
     draft: &mut Draft,
     numbering: &Numbering<'_>,
 ) -> Result<(), Memory>
-    requires numbers { IsNumbering numbering.now }
     ensures { OnOk result (procs_of draft.new ≡ procs_of draft.old
         ++ map (body (chart_in numbering.now)) (keys.all_junction_parts (chart_in numbering.now))) }
 {

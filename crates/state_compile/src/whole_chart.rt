@@ -5,14 +5,14 @@ ghost use Rattle.code_language.specs.Code.{instrs_of};
 ghost use Rattle.chart_code.specs.StateProcedures as templates;
 ghost use Rattle.chart_code.specs.Keys as keys;
 ghost use Rattle.chart_code.specs.Bodies.{body};
-ghost use Rattle.continuation_compile.specs.Drafts.{procs_of};
-ghost use Rattle.continuation_compile.specs.Numberings.{chart_in, IsNumbering};
+ghost use Rattle.list_compile.specs.Drafts.{procs_of};
+ghost use Rattle.list_compile.specs.Numberings.{chart_in};
 
 use crate::regions::{StateKeys, append_ascending, append_descending, append_junction_parts};
 use code_language::Instr;
-use continuation_compile::results::EMPTY_JUNCTION;
-use continuation_compile::{Draft, Numbering, append, put_return};
 use flow_base::{List, Memory};
+use list_compile::results::EMPTY_JUNCTION;
+use list_compile::{Draft, Numbering, append, put_return};
 use std::alloc::Global;
 
 /// Appends the procedure to which a search of an outer or inner list goes at an empty junction.
@@ -30,7 +30,6 @@ fn append_actions_and_parts(
     draft: &mut Draft,
     numbering: &Numbering<'_>,
 ) -> Result<(), Memory>
-    requires numbers { IsNumbering numbering.now }
     ensures { OnOk result (procs_of draft.new ≡ procs_of draft.old
         ++ map (body (chart_in numbering.now))
         (keys.all_actions (chart_in numbering.now)
@@ -50,7 +49,6 @@ fn append_reactions(
     draft: &mut Draft,
     numbering: &Numbering<'_>,
 ) -> Result<(), Memory>
-    requires numbers { IsNumbering numbering.now }
     ensures { OnOk result (procs_of draft.new ≡ procs_of draft.old
         ++ map (body (chart_in numbering.now))
         (keys.all_groups (chart_in numbering.now)
@@ -65,7 +63,6 @@ fn append_reactions(
 
 /// The procedures of a chart, in the order of the layout.
 pub fn procedures(alloc: Global, numbering: &Numbering<'_>) -> Result<List<List<Instr>>, Memory>
-    requires numbers { IsNumbering numbering.now }
     ensures { IfOk result (λ procs. map (λ is. instrs_of (items_of is)) (items_of procs)
         ≡ map (body (chart_in numbering.now)) (keys.layout (chart_in numbering.now))) }
 {

@@ -1,6 +1,6 @@
 use Rattle.std.proofs.lemmas.Result.{on_ok_weaker}
 use Rattle.flow_base.specs.Lists.{items_of}
-use Rattle.c_expression_writer.specs.FileShapes.{shape_seen}
+use Rattle.c_shape.specs.FileShapes.{shape_seen}
 use Rattle.c_expression_writer.proofs.StoreLemmas.{saturate_stored, signed_stored, low_stored, check_stored}
 use Rattle.c_expression_writer.proofs.assignments.store_number.Goals as goal
 

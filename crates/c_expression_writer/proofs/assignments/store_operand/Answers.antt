@@ -1,6 +1,6 @@
 use Rattle.std.proofs.lemmas.Result.{on_ok_weaker}
 use Rattle.flow_base.specs.Lists.{items_of}
-use Rattle.c_expression_writer.specs.FileShapes.{shape_seen}
+use Rattle.c_shape.specs.FileShapes.{shape_seen}
 use Rattle.c_expression_writer.proofs.StoreLemmas.{flag_stored}
 use Rattle.c_expression_writer.proofs.assignments.store_operand.Goals as goal
 

@@ -4,7 +4,7 @@ use Rattle.flow_base.specs.Lists.{items_of}
 use Rattle.actions.specs.Trees.{expr_of}
 use Rattle.actions.specs.declared.names.Var.{Var}
 use Rattle.std.specs.Prelude.{List}
-use Rattle.c_expression_writer.specs.FileShapes.{shape_seen}
+use Rattle.c_shape.specs.FileShapes.{shape_seen}
 use Rattle.c_expression_writer.proofs.StoreLemmas.{assigned_result, assigned_room}
 use Rattle.c_expression_writer.proofs.assignments.write_assign.Goals as goal
 

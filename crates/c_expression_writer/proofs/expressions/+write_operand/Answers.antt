@@ -3,7 +3,7 @@ use Rattle.std.proofs.lemmas.Result.{IfOk-weaker}
 use Rattle.flow_base.specs.Lists.{items_of}
 use Rattle.actions.specs.Sorts.{scope_of}
 use Rattle.actions.specs.Trees.{expr_of}
-use Rattle.c_expression_writer.specs.FileShapes.{shape_seen}
+use Rattle.c_shape.specs.FileShapes.{shape_seen}
 use Rattle.c_expression_writer.proofs.Steps.{at_expr, negated_result, denied_result, joined_result, decided_result}
 use Rattle.c_expression_writer.proofs.Steps.{literal_sorted, active_there, neg_can}
 use Rattle.c_expression_writer.proofs.Steps.{not_can, bin_can, own_sorted, join_room}

@@ -3,7 +3,7 @@ use Rattle.std.proofs.lemmas.Result.{IfOk-weaker}
 use Rattle.flow_base.specs.Lists.{items_of}
 use Rattle.actions.specs.Sorts.{binary_sort}
 use Rattle.c_functions.specs.Translation.{Flat, sort_in}
-use Rattle.c_expression_writer.specs.FileShapes.{shape_seen}
+use Rattle.c_shape.specs.FileShapes.{shape_seen}
 use Rattle.c_expression_writer.specs.Written.{IsWritten}
 use Rattle.c_expression_writer.proofs.Composed.{seen_eager}
 use Rattle.c_expression_writer.proofs.expressions.join.Goals as goal

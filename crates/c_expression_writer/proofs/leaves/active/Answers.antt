@@ -1,5 +1,5 @@
 use Rattle.std.proofs.Common.{refl}
-use Rattle.c_expression_writer.specs.FileShapes.{shape_seen}
+use Rattle.c_shape.specs.FileShapes.{shape_seen}
 use Rattle.c_expression_writer.proofs.LeafLemmas.{active_written}
 use Rattle.c_expression_writer.proofs.leaves.active.Goals as goal
 

@@ -1,6 +1,6 @@
 use Rattle.std.proofs.Common.{refl, ap, ◌∙◌}
 use Rattle.c_functions.specs.Translation.{sort_in}
-use Rattle.c_expression_writer.specs.FileShapes.{shape_seen}
+use Rattle.c_shape.specs.FileShapes.{shape_seen}
 use Rattle.c_expression_writer.proofs.LeafLemmas.{datum_written}
 use Rattle.c_expression_writer.proofs.leaves.datum.Goals as goal
 

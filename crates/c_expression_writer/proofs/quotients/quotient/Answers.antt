@@ -2,7 +2,7 @@ use Rattle.std.proofs.Common.{refl, ap, ◌∙◌}
 use Rattle.flow_base.specs.Lists.{items_of}
 use Rattle.c_subset.specs.Lines.{expr_of}
 use Rattle.c_functions.specs.Translation.{sort_in}
-use Rattle.c_expression_writer.specs.FileShapes.{shape_seen}
+use Rattle.c_shape.specs.FileShapes.{shape_seen}
 use Rattle.c_expression_writer.proofs.Composed.{quotient_step}
 use Rattle.c_expression_writer.proofs.quotients.quotient.Goals as goal
 

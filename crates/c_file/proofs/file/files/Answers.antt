@@ -4,7 +4,7 @@ use Rattle.code_language.specs.Code.{code_of}
 use Rattle.c_functions.specs.Writer.{plans_of}
 use Rattle.c_functions.specs.Files.{shape_of}
 use Rattle.c_functions.specs.Starts.{file_of}
-use Rattle.c_expression_writer.specs.FileShapes.{tests_seen}
+use Rattle.c_shape.specs.FileShapes.{tests_seen}
 use Rattle.c_runs.specs.Claims.{FileRunsAsRules}
 use Rattle.c_passes.specs.Standing.{StandsFor}
 use Rattle.c_file.specs.Files.{IsMadeFor}

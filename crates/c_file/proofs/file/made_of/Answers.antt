@@ -5,7 +5,7 @@ use Rattle.chart_parts.specs.Parts.{parts_of}
 use Rattle.code_language.specs.Code.{code_of}
 use Rattle.code_passes.specs.declared.tag.Tag.{Tag}
 use Rattle.c_text.specs.Labels.{Labels}
-use Rattle.c_expression_writer.specs.FileShapes.{shape_seen, tests_seen}
+use Rattle.c_shape.specs.FileShapes.{shape_seen, tests_seen}
 use Rattle.c_file.specs.Comments.{comments_for, IsTagOf}
 use Rattle.c_file.proofs.SourceLemmas.{names_are, own_shape}
 use Rattle.c_file.proofs.file.made_of.Goals as goal

@@ -3,7 +3,7 @@ use Rattle.checked_chart.specs.Kept.{chart_of}
 use Rattle.code_language.specs.Code.{code_of}
 use Rattle.code_counts.specs.declared.numbers.Counted.TheVariants.{Steps, Depth}
 use Rattle.code_counts.specs.Needed as needed
-use Rattle.c_expression_writer.specs.FileShapes.{tests_seen}
+use Rattle.c_shape.specs.FileShapes.{tests_seen}
 use Rattle.c_file.specs.Files.{IsWritten}
 use Rattle.c_file.proofs.CodeLemmas.{written_fits, written_alike, written_tags}
 use Rattle.c_file.proofs.ServeLemmas.{limits_serve}

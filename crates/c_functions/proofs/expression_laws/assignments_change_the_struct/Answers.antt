@@ -1,4 +1,4 @@
-use Rattle.c_functions.proofs.Assigning.{assigns-data}
+use Rattle.c_functions.proofs.AssigningLemmas.{assigns-data}
 use Rattle.c_functions.proofs.expression_laws.assignments_change_the_struct.Goals as goal
 
 pub returns : goal.returns

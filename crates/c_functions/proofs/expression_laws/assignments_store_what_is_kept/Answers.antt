@@ -1,5 +1,5 @@
-use Rattle.c_functions.proofs.Assigned.{assigns}
-use Rattle.c_functions.proofs.Fields.{field-takes}
+use Rattle.c_functions.proofs.StoringAssignments.{assigns}
+use Rattle.c_functions.proofs.StoringFields.{field-takes}
 use Rattle.c_functions.proofs.expression_laws.assignments_store_what_is_kept.Goals as goal
 
 pub returns-clause-kept : goal.returns-clause-kept

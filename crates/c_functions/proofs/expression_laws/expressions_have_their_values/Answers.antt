@@ -1,4 +1,4 @@
-use Rattle.c_functions.proofs.Correct.{ends_as_value}
+use Rattle.c_functions.proofs.TranslationEnds.{ends_as_value}
 use Rattle.c_functions.proofs.expression_laws.expressions_have_their_values.Goals as goal
 
 pub returns : goal.returns

@@ -1,4 +1,4 @@
-use Rattle.c_functions.proofs.WrittenCode.{written-goes, written-faults, file-divides}
+use Rattle.c_functions.proofs.CodeStatements.{written-goes, written-faults, file-divides}
 use Rattle.c_functions.proofs.expression_laws.statements_do_what_code_does.Goals as goal
 
 pub returns-clause-goes : goal.returns-clause-goes

@@ -1,4 +1,4 @@
-use Rattle.c_functions.proofs.Changes.{chooses, keeps, turns}
+use Rattle.c_functions.proofs.LayoutChanges.{chooses, keeps, turns}
 use Rattle.c_functions.proofs.function_laws.changes_of_states_change_the_struct.Goals as goal
 
 pub returns-clause-chooses : goal.returns-clause-chooses

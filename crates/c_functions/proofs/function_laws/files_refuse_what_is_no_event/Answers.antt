@@ -1,4 +1,4 @@
-use Rattle.c_functions.proofs.FileRuns.{refuses}
+use Rattle.c_functions.proofs.StartsRuns.{refuses}
 use Rattle.c_functions.proofs.function_laws.files_refuse_what_is_no_event.Goals as goal
 
 pub returns : goal.returns

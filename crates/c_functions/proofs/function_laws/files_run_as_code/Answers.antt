@@ -1,5 +1,5 @@
-use Rattle.c_functions.proofs.FileRuns.{runs-on, unset-shape}
-use Rattle.c_functions.proofs.KeepsShape.{shape-kept}
+use Rattle.c_functions.proofs.StartsRuns.{runs-on, unset-shape}
+use Rattle.c_functions.proofs.FilesShape.{shape-kept}
 use Rattle.c_functions.proofs.function_laws.files_run_as_code.Goals as goal
 
 pub returns-clause-runs : goal.returns-clause-runs

@@ -1,4 +1,4 @@
-use Rattle.c_functions.proofs.Tests.{on-has, bare-has, last-has, shows-active}
+use Rattle.c_functions.proofs.LayoutTests.{on-has, bare-has, last-has, shows-active}
 use Rattle.c_functions.proofs.function_laws.tests_of_states_give_which_are_active.Goals as goal
 
 pub returns-clause-on : goal.returns-clause-on

@@ -1,4 +1,4 @@
-use Rattle.c_functions.proofs.Changing.{mark_shows, clear_shows, keep_shows}
+use Rattle.c_functions.proofs.StatesChanges.{mark_shows, clear_shows, keep_shows}
 use Rattle.c_functions.proofs.plan_laws.changes_of_fields_are_those_of_marks.Goals as goal
 
 pub returns-clause-mark : goal.returns-clause-mark

@@ -1,4 +1,4 @@
-use Rattle.c_functions.proofs.Staying.{never_stuck}
+use Rattle.c_functions.proofs.RunsStays.{never_stuck}
 use Rattle.c_functions.proofs.plan_laws.code_is_never_stuck.Goals as goal
 
 pub returns : goal.returns

@@ -1,4 +1,4 @@
-use Rattle.c_functions.proofs.Agreeing.{world_is, own_agrees}
+use Rattle.c_functions.proofs.RunsArithmetic.{world_is, own_agrees}
 use Rattle.c_functions.proofs.plan_laws.memory_tells_its_world.Goals as goal
 
 pub returns-clause-world : goal.returns-clause-world

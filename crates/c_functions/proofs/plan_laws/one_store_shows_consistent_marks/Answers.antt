@@ -1,4 +1,4 @@
-use Rattle.c_functions.proofs.Telling.{shown_shows, one_store, one_configuration, single_shown}
+use Rattle.c_functions.proofs.StatesMarks.{shown_shows, one_store, one_configuration, single_shown}
 use Rattle.c_functions.proofs.plan_laws.one_store_shows_consistent_marks.Goals as goal
 
 pub returns-clause-shows : goal.returns-clause-shows

@@ -1,4 +1,4 @@
-use Rattle.c_functions.proofs.Showing.{on_is, bare_is, last_is}
+use Rattle.c_functions.proofs.StatesTests.{on_is, bare_is, last_is}
 use Rattle.c_functions.proofs.plan_laws.tests_of_fields_are_those_of_marks.Goals as goal
 
 pub returns-clause-on : goal.returns-clause-on

@@ -1,4 +1,4 @@
-use Rattle.c_functions.proofs.Starting.{no_fields_show, suc_numbers, place_numbers}
+use Rattle.c_functions.proofs.RunsBegun.{no_fields_show, suc_numbers, place_numbers}
 use Rattle.c_functions.proofs.plan_laws.zeros_show_no_marks.Goals as goal
 
 pub returns-clause-zeros : goal.returns-clause-zeros

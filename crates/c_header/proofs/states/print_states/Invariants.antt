@@ -1,6 +1,6 @@
 use Rattle.std.proofs.Common.{◌≡◌, ◌++◌}
 use Rattle.std.specs.Prelude.{string_bytes}
-use Rattle.c_expression_writer.specs.FileShapes.{shape_seen}
+use Rattle.c_shape.specs.FileShapes.{shape_seen}
 use Rattle.c_text.specs.Labels.{labels_of}
 use Rattle.c_header.specs.Fields.{texts_below}
 use Rattle.c_header.specs.Header.{state_text}

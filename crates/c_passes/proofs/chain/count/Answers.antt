@@ -1,5 +1,5 @@
 use Rattle.code_language.specs.Code.{code_of}
-use Rattle.c_expression_writer.specs.FileShapes.{shape_seen}
+use Rattle.c_shape.specs.FileShapes.{shape_seen}
 use Rattle.c_passes.proofs.FunctionLemmas.{functions_count}
 use Rattle.c_passes.proofs.chain.count.Goals as goal
 

@@ -1,6 +1,6 @@
 use Rattle.std.proofs.Common.{arith}
 use Rattle.code_language.specs.Code.{code_of}
-use Rattle.c_expression_writer.specs.FileShapes.{shape_seen}
+use Rattle.c_shape.specs.FileShapes.{shape_seen}
 use Rattle.c_passes.proofs.FunctionLemmas.{none_so_far, one_more, looped_all}
 use Rattle.c_passes.proofs.chain.functions.Goals as goal
 

@@ -1,7 +1,7 @@
 use Rattle.std.proofs.Common.{arith}
 use Rattle.std.proofs.lemmas.Result.{IfOk-weaker}
 use Rattle.code_language.specs.Code.{code_of}
-use Rattle.c_expression_writer.specs.FileShapes.{shape_seen}
+use Rattle.c_shape.specs.FileShapes.{shape_seen}
 use Rattle.c_passes.proofs.FunctionLemmas.{functions_count, plain_is, loop_is}
 use Rattle.c_passes.proofs.chain.looped.Goals as goal
 

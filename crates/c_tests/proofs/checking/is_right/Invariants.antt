@@ -1,4 +1,4 @@
-use Rattle.c_expression_writer.specs.FileShapes.{tests_seen}
+use Rattle.c_shape.specs.FileShapes.{tests_seen}
 use Rattle.c_tests.proofs.CheckLemmas.{AreRightBefore}
 use Rattle.c_tests.proofs.checking.is_right.Given as goal
 

@@ -1,6 +1,6 @@
 use Rattle.std.proofs.Common.{◌∙◌, sym}
 use Rattle.code_language.specs.Code.{code_of}
-use Rattle.c_expression_writer.specs.FileShapes.{tests_seen}
+use Rattle.c_shape.specs.FileShapes.{tests_seen}
 use Rattle.c_tests.proofs.CheckLemmas.{one_more_safe, all_safe}
 use Rattle.c_tests.proofs.checking.none_can_fail.Goals as goal
 

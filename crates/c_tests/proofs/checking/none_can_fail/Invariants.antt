@@ -1,5 +1,5 @@
 use Rattle.code_language.specs.Code.{code_of, instrs_of}
-use Rattle.c_expression_writer.specs.FileShapes.{tests_seen}
+use Rattle.c_shape.specs.FileShapes.{tests_seen}
 use Rattle.c_tests.proofs.CheckLemmas.{NoneBefore}
 use Rattle.c_tests.proofs.checking.none_can_fail.Given as goal
 

@@ -1,5 +1,5 @@
 use Rattle.std.proofs.Common.{◌+◌, sym, ◌∙◌, ap, arith}
-use Rattle.c_functions.specs.States.{is_or}
+use Rattle.active_config.specs.Tree.{is_or}
 use Rattle.c_text.proofs.RankLemmas.{rank-none, rank-more, rank-same, rank-all, rank-few}
 use Rattle.c_text.proofs.labels.count_ors.Goals as goal
 use Rattle.c_text.proofs.labels.count_ors.Goals.{then-is_or, else-is_or}

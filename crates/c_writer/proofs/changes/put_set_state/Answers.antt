@@ -3,7 +3,7 @@ use Rattle.std.proofs.lemmas.Result.{on_ok_weaker}
 use Rattle.flow_base.specs.Lists.{items_of}
 use Rattle.c_subset.specs.Lines.{expr_of}
 use Rattle.c_subset.specs.Trees.{Const}
-use Rattle.c_expression_writer.specs.FileShapes.{shape_seen}
+use Rattle.c_shape.specs.FileShapes.{shape_seen}
 use Rattle.c_writer.specs.Changes.{child_type}
 use Rattle.c_writer.proofs.Changed.{set_some, set_none}
 use Rattle.c_writer.proofs.changes.put_set_state.Goals as goal

@@ -1,7 +1,7 @@
 use Rattle.std.proofs.lemmas.Result.{on_ok_weaker}
 use Rattle.flow_base.specs.Lists.{items_of}
 use Rattle.c_subset.specs.Lines.{expr_of}
-use Rattle.c_expression_writer.specs.FileShapes.{shape_seen}
+use Rattle.c_shape.specs.FileShapes.{shape_seen}
 use Rattle.c_writer.proofs.Changed.{unset_some, unset_none}
 use Rattle.c_writer.proofs.changes.put_unset_state.Goals as goal
 

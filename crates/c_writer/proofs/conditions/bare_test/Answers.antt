@@ -1,7 +1,7 @@
 use Rattle.std.proofs.Common.{sym, ◌∙◌}
 use Rattle.std.proofs.lemmas.Result.{IfOk-weaker}
-use Rattle.c_functions.proofs.Checked.{bare_is_c}
-use Rattle.c_expression_writer.specs.FileShapes.{shape_seen}
+use Rattle.c_functions.proofs.PlansTests.{bare_is_c}
+use Rattle.c_shape.specs.FileShapes.{shape_seen}
 use Rattle.c_writer.proofs.conditions.bare_test.Goals as goal
 
 pub returns : goal.returns

@@ -2,7 +2,7 @@ use Rattle.std.proofs.Common.{◌≡◌, true, subst}
 use Rattle.actions.specs.Trees.{expr_of}
 use Rattle.code_language.specs.Code.{cond_of}
 use Rattle.code_language.specs.WellFormed.{cond_typed}
-use Rattle.c_expression_writer.specs.FileShapes.{shape_seen}
+use Rattle.c_shape.specs.FileShapes.{shape_seen}
 use Rattle.c_writer.specs.Fine.{known_in}
 use Rattle.c_writer.proofs.FineLemmas.{test_sorted}
 use Rattle.c_writer.proofs.conditions.put_condition.Goals as goal

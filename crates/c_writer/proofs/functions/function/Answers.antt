@@ -3,7 +3,7 @@ use Rattle.std.proofs.lemmas.Result.{IfOk-weaker}
 use Rattle.code_language.specs.Code.{code_of}
 use Rattle.c_functions.specs.Writer.{plans_of}
 use Rattle.c_functions.specs.Files.{procedure_c}
-use Rattle.c_expression_writer.specs.FileShapes.{shape_seen}
+use Rattle.c_shape.specs.FileShapes.{shape_seen}
 use Rattle.c_writer.proofs.CodeLemmas.{procedure_there, later_there}
 use Rattle.c_writer.proofs.functions.function.Goals as goal
 

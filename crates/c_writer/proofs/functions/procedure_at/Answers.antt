@@ -6,7 +6,7 @@ use Rattle.c_subset.specs.Lines.{IsFunction}
 use Rattle.c_functions.specs.Writer.{plan_of, plans_of}
 use Rattle.c_functions.specs.Files.{procedure_c}
 use Rattle.c_functions.specs.Plans.{Shape}
-use Rattle.c_expression_writer.specs.FileShapes.{shape_seen}
+use Rattle.c_shape.specs.FileShapes.{shape_seen}
 use Rattle.c_writer.specs.Parts.{CanBeWritten, StaysWithin}
 use Rattle.c_writer.proofs.CodeLemmas.{can_be_written, all_stay}
 use Rattle.c_writer.proofs.functions.procedure_at.Goals as goal

@@ -4,7 +4,7 @@ use Rattle.flow_base.specs.Lists.{items_of}
 use Rattle.active_config.specs.Tree.{state_count}
 use Rattle.c_subset.specs.Lines.{lines_in, lines_of}
 use Rattle.c_functions.specs.Files.{home_body}
-use Rattle.c_expression_writer.specs.FileShapes.{shape_seen}
+use Rattle.c_shape.specs.FileShapes.{shape_seen}
 use Rattle.c_writer.specs.Homes.{test_at}
 use Rattle.c_writer.proofs.helpers.home_lines.Given as goal
 

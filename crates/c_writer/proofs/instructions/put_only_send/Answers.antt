@@ -1,7 +1,7 @@
 use Rattle.std.proofs.lemmas.Result.{on_ok_weaker}
 use Rattle.flow_base.specs.Lists.{items_of}
 use Rattle.c_functions.specs.Plans.{procedure_call, plan_c}
-use Rattle.c_expression_writer.specs.FileShapes.{shape_seen}
+use Rattle.c_shape.specs.FileShapes.{shape_seen}
 use Rattle.c_writer.specs.Calls.{send_arguments}
 use Rattle.c_writer.proofs.Ending.{ends}
 use Rattle.c_writer.proofs.instructions.put_only_send.Goals as goal

@@ -3,7 +3,7 @@ use Rattle.std.proofs.lemmas.Result.{on_ok_weaker}
 use Rattle.c_functions.specs.Statements as plan
 use Rattle.c_functions.specs.Written.{on_check}
 use Rattle.c_functions.specs.Plans.{pay_c, plan_c}
-use Rattle.c_expression_writer.specs.FileShapes.{shape_seen}
+use Rattle.c_shape.specs.FileShapes.{shape_seen}
 use Rattle.c_writer.proofs.instructions.put_send_to.Goals as goal
 
 pub returns : goal.returns

@@ -5,7 +5,7 @@ use Rattle.code_language.specs.Code.{instr_of}
 use Rattle.code_language.specs.WellFormed.{instr_typed}
 use Rattle.c_functions.specs.Written.{straight}
 use Rattle.c_functions.specs.Plans.{plan_c}
-use Rattle.c_expression_writer.specs.FileShapes.{shape_seen}
+use Rattle.c_shape.specs.FileShapes.{shape_seen}
 use Rattle.c_writer.specs.Fine.{known_in}
 use Rattle.c_writer.proofs.FineLemmas.{assigned_sorted}
 use Rattle.c_writer.proofs.instructions.put_straight.Goals as goal

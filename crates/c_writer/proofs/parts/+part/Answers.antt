@@ -7,7 +7,7 @@ use Rattle.c_subset.specs.Trees.{Return}
 use Rattle.c_subset.specs.Lines.{expr_of, lines_in, lines_of}
 use Rattle.c_functions.specs.Written.{test_of}
 use Rattle.c_functions.specs.Plans.{plan_c, plays}
-use Rattle.c_expression_writer.specs.FileShapes.{shape_seen}
+use Rattle.c_shape.specs.FileShapes.{shape_seen}
 use Rattle.c_writer.specs.Fine.{IsFine}
 use Rattle.c_writer.specs.Parts.{IsNext, part}
 use Rattle.c_writer.proofs.PlaceLemmas.{get_at, stands_at}

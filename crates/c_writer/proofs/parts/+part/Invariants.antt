@@ -4,7 +4,7 @@ use Rattle.flow_base.specs.Lists.{items_of}
 use Rattle.code_language.specs.Code.{instrs_of}
 use Rattle.c_subset.specs.Lines.{lines_in, lines_of}
 use Rattle.c_functions.specs.Plans.{plan_c, plays}
-use Rattle.c_expression_writer.specs.FileShapes.{shape_seen}
+use Rattle.c_shape.specs.FileShapes.{shape_seen}
 use Rattle.c_writer.specs.Parts.{StaysWithin, part}
 use Rattle.c_writer.proofs.parts.+part.Given as goal
 

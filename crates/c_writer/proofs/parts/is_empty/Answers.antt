@@ -1,7 +1,7 @@
 use Rattle.std.proofs.Common.{◌∙◌, sym, subst, arith}
 use Rattle.code_language.specs.Code.{instr_of, instrs_of}
 use Rattle.code_language.proofs.ListLemmas.{drop_map_at}
-use Rattle.c_expression_writer.specs.FileShapes.{shape_seen}
+use Rattle.c_shape.specs.FileShapes.{shape_seen}
 use Rattle.c_writer.specs.Parts.{HasLines}
 use Rattle.c_writer.proofs.PlaceLemmas.{get_at, stands_at}
 use Rattle.c_writer.proofs.PartLemmas.{part_none, part_skip}

@@ -1,6 +1,6 @@
 use Rattle.std.proofs.Common.{◌≡◌, ◌≤◌, ◌-◌, ℕ}
 use Rattle.code_language.specs.Code.{instrs_of}
-use Rattle.c_expression_writer.specs.FileShapes.{shape_seen}
+use Rattle.c_shape.specs.FileShapes.{shape_seen}
 use Rattle.c_writer.specs.Parts.{StaysWithin, part}
 use Rattle.c_writer.proofs.parts.is_empty.Given as goal
 

@@ -1,6 +1,6 @@
 use Rattle.std.proofs.lemmas.Result.{on_ok_weaker}
 use Rattle.flow_base.specs.Lists.{items_of}
-use Rattle.c_expression_writer.specs.FileShapes.{shape_seen}
+use Rattle.c_shape.specs.FileShapes.{shape_seen}
 use Rattle.c_writer.specs.Pieces.{turn_before}
 use Rattle.c_writer.proofs.Ending.{ends}
 use Rattle.c_writer.proofs.plays.put_turn.Goals as goal

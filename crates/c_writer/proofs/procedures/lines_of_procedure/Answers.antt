@@ -5,7 +5,7 @@ use Rattle.code_language.specs.Code.{instrs_of}
 use Rattle.c_subset.specs.Lines.{lines_in, lines_of}
 use Rattle.c_functions.specs.Writer.{plan_of}
 use Rattle.c_functions.specs.Plans.{plan_c, plays}
-use Rattle.c_expression_writer.specs.FileShapes.{shape_seen}
+use Rattle.c_shape.specs.FileShapes.{shape_seen}
 use Rattle.c_writer.proofs.ProcedureLemmas.{whole, body_plays, body_rests}
 use Rattle.c_writer.proofs.procedures.lines_of_procedure.Goals as goal
 

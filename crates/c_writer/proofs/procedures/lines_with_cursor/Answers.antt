@@ -5,7 +5,7 @@ use Rattle.c_subset.specs.Trees.{Set}
 use Rattle.c_subset.specs.Lines.{expr_of, lines_in, lines_of}
 use Rattle.c_functions.specs.Writer.{plan_of}
 use Rattle.c_functions.specs.Plans.{word, plan_c}
-use Rattle.c_expression_writer.specs.FileShapes.{shape_seen}
+use Rattle.c_shape.specs.FileShapes.{shape_seen}
 use Rattle.c_writer.proofs.ProcedureLemmas.{whole}
 use Rattle.c_writer.proofs.procedures.lines_with_cursor.Goals as goal
 

@@ -1,6 +1,6 @@
 use Rattle.std.proofs.lemmas.Result.{on_ok_weaker}
 use Rattle.flow_base.specs.Lists.{items_of}
-use Rattle.c_expression_writer.specs.FileShapes.{shape_seen}
+use Rattle.c_shape.specs.FileShapes.{shape_seen}
 use Rattle.c_writer.proofs.StoreLemmas.{fields_put}
 use Rattle.c_writer.proofs.starts.put_fields.Goals as goal
 

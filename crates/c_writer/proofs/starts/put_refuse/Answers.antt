@@ -7,7 +7,7 @@ use Rattle.c_subset.specs.Lines.{expr_of}
 use Rattle.c_functions.specs.Events.{leading_events}
 use Rattle.c_functions.specs.Plans.{event_local}
 use Rattle.c_functions.specs.Starts.{late_refusals_c}
-use Rattle.c_expression_writer.specs.FileShapes.{shape_seen}
+use Rattle.c_shape.specs.FileShapes.{shape_seen}
 use Rattle.c_writer.proofs.RefusalLemmas.{part_lines, refuse_lines}
 use Rattle.c_writer.proofs.starts.put_refuse.Goals as goal
 

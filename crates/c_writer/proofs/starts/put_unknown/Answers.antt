@@ -4,7 +4,7 @@ use Rattle.flow_base.specs.Lists.{items_of}
 use Rattle.c_subset.specs.Trees.{CExpr}
 use Rattle.c_subset.specs.Lines.{If, lines_in}
 use Rattle.c_functions.specs.Starts.{is_unknown_c, no_event_c}
-use Rattle.c_expression_writer.specs.FileShapes.{shape_seen}
+use Rattle.c_shape.specs.FileShapes.{shape_seen}
 use Rattle.c_writer.proofs.RefusalLemmas.{part_lines}
 use Rattle.c_writer.proofs.starts.put_unknown.Goals as goal
 

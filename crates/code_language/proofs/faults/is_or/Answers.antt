@@ -1,12 +1,12 @@
 use Rattle.std.proofs.Common.{ap, ◌∙◌}
-use Rattle.checked_chart.specs.Chart.{is_or}
+use Rattle.active_config.specs.Tree.{is_or}
 use Rattle.flow_base.specs.Lists.{items_of}
 use Rattle.code_language.proofs.TableLemmas.{comp_there, comp_past}
 use Rattle.code_language.proofs.faults.is_or.Goals as goal
 
 pub returns-in-Some : goal.returns-in-Some
 returns-in-Some c =
-    c.is_or_comp.ensures
+    c.is_or.ensures
     ∙ ap is_or (comp_there (items_of c.args.raw.now.states) c.items.result.now c.args.state c.in-Some.state.now
     c.items.ensures c.in-Some.ensures.lookup.3.0 c.in-Some.ensures.lookup.1)
 

@@ -1,5 +1,5 @@
 use Rattle.std.proofs.Common.{◌≡◌, ◌+◌, ◌≤◌, length}
-use Rattle.code_text.specs.Lines.{cut_of}
+use Rattle.code_fields.specs.Lines.{cut_of}
 use Rattle.code_text.specs.Reading.{nothing_read, outcome_from}
 use Rattle.code_text.specs.Views.{partial_of}
 use Rattle.code_text.proofs.reader.read_raw.Given as goal

@@ -1,5 +1,5 @@
 use Rattle.std.proofs.Common.{◌≡◌, ◌+◌, ◌≤◌, length}
-use Rattle.net_text.specs.Lines.{cut_of}
+use Rattle.code_fields.specs.Lines.{cut_of}
 use Rattle.net_text.specs.Reading.{outcome_from, outcome_of}
 use Rattle.net_text.specs.Views.{partial_of}
 use Rattle.net_text.proofs.reader.read_lines.Given as goal

@@ -2,8 +2,8 @@ use Rattle.std.proofs.Common.{◌∙◌, [], ◌∷◌, ◌++◌, ap}
 use Rattle.code_language.specs.Code.{instrs_of}
 use Rattle.chart_code.specs.StateProcedures.{exit_code}
 use Rattle.chart_code.specs.Places.{numbers}
-use Rattle.continuation_compile.specs.Drafts.{procs_of}
-use Rattle.continuation_compile.specs.Numberings.{chart_in}
+use Rattle.list_compile.specs.Drafts.{procs_of}
+use Rattle.list_compile.specs.Numberings.{chart_in}
 use Rattle.state_compile.proofs.exits.append_exit.Goals as goal
 
 pub returns : goal.returns

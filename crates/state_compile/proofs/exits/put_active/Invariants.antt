@@ -1,8 +1,8 @@
 use Rattle.std.proofs.Common.{◌≡◌, ◌++◌, drop}
 use Rattle.chart_code.specs.StateProcedures.{active_code}
 use Rattle.chart_code.specs.Places.{numbers}
-use Rattle.continuation_compile.specs.Drafts.{code_seen}
-use Rattle.continuation_compile.specs.Numberings.{chart_in}
+use Rattle.list_compile.specs.Drafts.{code_seen}
+use Rattle.list_compile.specs.Numberings.{chart_in}
 use Rattle.state_compile.proofs.exits.put_active.Given as goal
 
 -- what is written and what is left are what was there and the code of all the states

@@ -1,4 +1,4 @@
-use Rattle.continuation_compile.specs.Drafts.{code_seen}
+use Rattle.list_compile.specs.Drafts.{code_seen}
 use Rattle.state_compile.proofs.Turns.{two_parts}
 use Rattle.state_compile.proofs.exits.put_exit.Goals as goal
 

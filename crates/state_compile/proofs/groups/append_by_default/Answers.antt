@@ -2,8 +2,8 @@ use Rattle.std.proofs.Common.{◌∷◌, []}
 use Rattle.checked_chart.specs.declared.parts.ListKind.TheVariants.{Default}
 use Rattle.chart_code.specs.Bodies.{body}
 use Rattle.chart_code.specs.Keys.{Defaults, Arrive, search_keys}
-use Rattle.continuation_compile.specs.Drafts.{procs_of}
-use Rattle.continuation_compile.specs.Numberings.{chart_in}
+use Rattle.list_compile.specs.Drafts.{procs_of}
+use Rattle.list_compile.specs.Numberings.{chart_in}
 use Rattle.state_compile.proofs.Spans.{both}
 use Rattle.state_compile.proofs.groups.append_by_default.Goals as goal
 

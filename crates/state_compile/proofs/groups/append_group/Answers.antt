@@ -4,8 +4,8 @@ use Rattle.chart_code.specs.Bodies.{body}
 use Rattle.chart_code.specs.Ends.{below_count}
 use Rattle.chart_code.specs.Keys.{Leave, Exit, Arrive, Defaults, Take, Enter, search_keys, group_keys}
 use Rattle.chart_code.specs.Orders.{span}
-use Rattle.continuation_compile.specs.Drafts.{procs_of}
-use Rattle.continuation_compile.specs.Numberings.{chart_in}
+use Rattle.list_compile.specs.Drafts.{procs_of}
+use Rattle.list_compile.specs.Numberings.{chart_in}
 use Rattle.state_compile.proofs.Spans.{all_parts}
 use Rattle.state_compile.proofs.groups.append_group.Goals as goal
 

@@ -4,8 +4,8 @@ use Rattle.chart_code.specs.Ends.{below_count}
 use Rattle.chart_code.specs.Keys.{Take, Enter}
 use Rattle.chart_code.specs.Orders.{span}
 use Rattle.chart_code.proofs.EndsLemmas.{end_after}
-use Rattle.continuation_compile.specs.Drafts.{procs_of}
-use Rattle.continuation_compile.specs.Numberings.{chart_in}
+use Rattle.list_compile.specs.Drafts.{procs_of}
+use Rattle.list_compile.specs.Numberings.{chart_in}
 use Rattle.state_compile.proofs.Spans.{both, span_same}
 use Rattle.state_compile.proofs.groups.append_taking.Goals as goal
 
@@ -15,7 +15,7 @@ returns c =
     let b = body chart in
     let s = c.args.state in
     let n = suc (below_count chart.tree s) in
-    let after = end_after chart.tree c.requires.numbers.valid.tree s c.requires.state in
+    let after = end_after chart.tree c.states.ensures.valid.tree s c.requires in
     let before = procs_of c.args.draft.now in
     let taken = procs_of c.append_pairs.new.draft in
     both b (span (Take s) s n) (span (Enter s) s n) before taken _

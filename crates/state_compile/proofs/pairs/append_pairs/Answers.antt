@@ -1,8 +1,7 @@
 use Rattle.std.proofs.Common.{refl, arith}
 use Rattle.chart_code.specs.Bodies.{body}
-use Rattle.chart_code.proofs.EndsLemmas.{end_is}
-use Rattle.continuation_compile.specs.Drafts.{procs_of}
-use Rattle.continuation_compile.specs.Numberings.{chart_in}
+use Rattle.list_compile.specs.Drafts.{procs_of}
+use Rattle.list_compile.specs.Numberings.{chart_in}
 use Rattle.state_compile.specs.Keyed.{pair_key}
 use Rattle.state_compile.proofs.Spans.{span_turn, span_over, span_same}
 use Rattle.state_compile.proofs.pairs.append_pairs.Goals as goal
@@ -14,14 +13,7 @@ loop-dest-init c =
     (omega (arith, c.end-dest-end.ensures.end))
 
 pub append_pair-requires-clause-dest : goal.append_pair-requires-clause-dest
-append_pair-requires-clause-dest c =
-    let chart = chart_in c.args.numbering.now in
-    omega (
-      arith,
-      c.loop-dest-test.true,
-      c.end-dest-end.ensures.end,
-      (end_is chart.tree c.requires.numbers.valid.tree c.args.state c.requires.state).within,
-    )
+append_pair-requires-clause-dest c = omega (arith, c.loop-dest-test.true, c.end-dest-end.ensures.within)
 
 pub loop-dest-preserved : goal.loop-dest-preserved
 loop-dest-preserved c =

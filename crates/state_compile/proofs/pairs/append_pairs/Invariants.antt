@@ -2,8 +2,8 @@ use Rattle.std.proofs.Common.{◌≡◌, ◌++◌, ◌-◌, map}
 use Rattle.chart_code.specs.Bodies.{body}
 use Rattle.chart_code.specs.Ends.{end_of}
 use Rattle.chart_code.specs.Orders.{span}
-use Rattle.continuation_compile.specs.Drafts.{procs_of}
-use Rattle.continuation_compile.specs.Numberings.{chart_in}
+use Rattle.list_compile.specs.Drafts.{procs_of}
+use Rattle.list_compile.specs.Numberings.{chart_in}
 use Rattle.state_compile.specs.Keyed.{pair_key}
 use Rattle.state_compile.proofs.pairs.append_pairs.Given as goal
 

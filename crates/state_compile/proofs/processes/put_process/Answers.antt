@@ -1,4 +1,4 @@
-use Rattle.continuation_compile.specs.Drafts.{code_seen}
+use Rattle.list_compile.specs.Drafts.{code_seen}
 use Rattle.state_compile.proofs.Turns.{three_parts}
 use Rattle.state_compile.proofs.processes.put_process.Goals as goal
 

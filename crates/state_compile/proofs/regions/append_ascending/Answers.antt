@@ -1,7 +1,7 @@
 use Rattle.std.proofs.Common.{◌+◌, arith}
 use Rattle.chart_code.specs.Bodies.{body}
-use Rattle.continuation_compile.specs.Drafts.{procs_of}
-use Rattle.continuation_compile.specs.Numberings.{chart_in}
+use Rattle.list_compile.specs.Drafts.{procs_of}
+use Rattle.list_compile.specs.Numberings.{chart_in}
 use Rattle.state_compile.specs.Keyed.{keys_of}
 use Rattle.state_compile.proofs.Turns.{ascending_start, ascending_turn}
 use Rattle.state_compile.proofs.regions.append_ascending.Goals as goal

@@ -2,8 +2,8 @@ use Rattle.std.proofs.Common.{◌≡◌, ◌++◌, map}
 use Rattle.active_config.specs.Tree.{state_count}
 use Rattle.chart_code.specs.Bodies.{body}
 use Rattle.chart_code.specs.Orders.{descending}
-use Rattle.continuation_compile.specs.Drafts.{procs_of}
-use Rattle.continuation_compile.specs.Numberings.{chart_in}
+use Rattle.list_compile.specs.Drafts.{procs_of}
+use Rattle.list_compile.specs.Numberings.{chart_in}
 use Rattle.state_compile.specs.Keyed.{keys_of}
 use Rattle.state_compile.proofs.regions.append_descending.Given as goal
 

@@ -1,8 +1,8 @@
 use Rattle.std.proofs.Common.{◌∙◌, ◌+◌, ◌++◌, map, ap, arith}
 use Rattle.chart_code.specs.Keys.{junction_parts_keys, parts_keys}
 use Rattle.chart_code.specs.Bodies.{body}
-use Rattle.continuation_compile.specs.Drafts.{procs_of}
-use Rattle.continuation_compile.specs.Numberings.{chart_in}
+use Rattle.list_compile.specs.Drafts.{procs_of}
+use Rattle.list_compile.specs.Numberings.{chart_in}
 use Rattle.state_compile.proofs.Turns.{ascending_start, ascending_turn}
 use Rattle.state_compile.proofs.regions.append_junction_parts.Goals as goal
 

@@ -2,8 +2,8 @@ use Rattle.std.proofs.Common.{◌≡◌, ◌++◌, map}
 use Rattle.chart_code.specs.Orders.{ascending}
 use Rattle.chart_code.specs.Keys.{junction_parts_keys}
 use Rattle.chart_code.specs.Bodies.{body}
-use Rattle.continuation_compile.specs.Drafts.{procs_of}
-use Rattle.continuation_compile.specs.Numberings.{chart_in}
+use Rattle.list_compile.specs.Drafts.{procs_of}
+use Rattle.list_compile.specs.Numberings.{chart_in}
 use Rattle.state_compile.proofs.regions.append_junction_parts.Given as goal
 
 -- what was there, and the procedures of those before this one

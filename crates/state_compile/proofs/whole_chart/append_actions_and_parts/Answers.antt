@@ -1,8 +1,8 @@
 use Rattle.std.proofs.Common.{◌++◌}
 use Rattle.chart_code.specs.Bodies.{body}
 use Rattle.chart_code.specs.Keys.{all_actions, all_state_parts, all_junction_parts}
-use Rattle.continuation_compile.specs.Drafts.{procs_of}
-use Rattle.continuation_compile.specs.Numberings.{chart_in}
+use Rattle.list_compile.specs.Drafts.{procs_of}
+use Rattle.list_compile.specs.Numberings.{chart_in}
 use Rattle.state_compile.proofs.Spans.{both}
 use Rattle.state_compile.proofs.whole_chart.append_actions_and_parts.Goals as goal
 

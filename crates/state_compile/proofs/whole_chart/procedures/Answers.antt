@@ -4,8 +4,8 @@ use Rattle.code_language.specs.Code.{instrs_of}
 use Rattle.chart_code.specs.Bodies.{body}
 use Rattle.chart_code.specs.Keys.{EndMark, layout, all_actions, all_state_parts, all_junction_parts, all_groups}
 use Rattle.chart_code.specs.Keys.{all_lists, all_processes}
-use Rattle.continuation_compile.specs.Drafts.{procs_of}
-use Rattle.continuation_compile.specs.Numberings.{chart_in}
+use Rattle.list_compile.specs.Drafts.{procs_of}
+use Rattle.list_compile.specs.Numberings.{chart_in}
 use Rattle.state_compile.proofs.Spans.{all_regions}
 use Rattle.state_compile.proofs.whole_chart.procedures.Goals as goal
 

@@ -1,6 +1,0 @@
-use Rattle.c_expression_writer.proofs.RankLemmas.{RanksTo}
-use Rattle.c_expression_writer.proofs.ranks.ranks_of.Given as goal
-
--- the states so far are counted
-abbrev pub invariant-loop-state : goal.invariant-loop-state
-invariant-loop-state l = RanksTo l.tree l.state l.ors l.ranks.items

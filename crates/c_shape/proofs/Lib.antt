@@ -1,0 +1,3 @@
+pub mod RankLemmas
+pub mod NoteLemmas
+pub mod ChildLemmas

@@ -1,4 +1,0 @@
-pub mod Drafts
-pub mod Tables
-pub mod Numberings
-pub mod Searches

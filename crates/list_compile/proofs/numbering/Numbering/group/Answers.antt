@@ -1,0 +1,23 @@
+use Rattle.std.proofs.Common.{◌≡◌, ◌+◌, suc, ap, arith}
+use Rattle.chart_code.specs.Orders.{sum_to, sum_between}
+use Rattle.chart_code.specs.Places.{group_at, group_size}
+use Rattle.list_compile.specs.Numberings.{chart_in}
+use Rattle.list_compile.proofs.numbering.Numbering.group.Goals as goal
+
+pub returns-clause-group : goal.returns-clause-group
+unfolding group_at sum_between
+returns-clause-group c =
+    let f = group_size (chart_in c.args.self.now) in
+    let table = c.args.self.now.numbers.groups in
+    let next : c.args.state + 1 ≡ suc c.args.state = omega arith in
+    omega (
+      arith,
+      c.groups_start.ensures.start,
+      c.entry.ensures,
+      c.entry-before.ensures,
+      c.saturating_sub.ensures,
+      table.each c.states.result (omega (arith, c.states.ensures.states)),
+      ap (sum_to f) c.states.ensures.states,
+      table.each (c.args.state + 1) (omega (arith, c.requires)),
+      ap (sum_to f) next,
+    )

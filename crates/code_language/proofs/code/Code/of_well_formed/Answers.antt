@@ -3,7 +3,7 @@ use Rattle.flow_base.specs.Lists.{items_of}
 use Rattle.code_language.specs.Code.{code_of, tree_of_states}
 use Rattle.code_language.specs.Kept.{KeepsMeasures}
 use Rattle.code_language.proofs.FaultLemmas.{states_counted}
-use Rattle.code_language.proofs.acceptance.Code.of_well_formed.Goals as goal
+use Rattle.code_language.proofs.code.Code.of_well_formed.Goals as goal
 
 pub tree_shape-requires-clause-short : goal.tree_shape-requires-clause-short
 tree_shape-requires-clause-short c =

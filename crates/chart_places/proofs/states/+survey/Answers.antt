@@ -8,8 +8,8 @@ use Rattle.chart_places.specs.Survey.{placed_of, placed_row}
 use Rattle.chart_places.proofs.SurveyLemmas.{placed-after, row-next}
 use Rattle.chart_places.proofs.states.+survey.Goals as goal
 
-pub place_state-returns-in-Ok : goal.place_state-returns-in-Ok
-place_state-returns-in-Ok t c =
+pub place_state-returns : goal.place_state-returns
+place_state-returns t c =
     let m = vec_len c.push.new.self in
     let pushed = map placed_of c.push.new.self.items in
     let same =
@@ -17,7 +17,7 @@ place_state-returns-in-Ok t c =
     ∙ ap (λ (n : ℕ). pushed ++ placed_row n m (map state_of (items_of (out-StateText c.args.state.now).states)))
     c.len-number.ensures
     ∙ placed-after c.args.places.now.items c.push.new.self.items c.args.parent (vec_len c.args.places.now) m
-    c.args.state c.in-Ok.ensures.items c.in-Ok.ensures.len in
+    c.args.state c.in_ok-push.ensures.items c.in_ok-push.ensures.len in
     subst (λ (ps : List Placed). OnOk c.place_below.result (map placed_of c.place_below.new.places.items ≡ ps)) same
     c.place_below.ensures
 

@@ -26,6 +26,6 @@ returns c =
     record {
       need =
           apart_evaluated l _ _ _ c.args.home _ (from_nothing l _ _ _ _ _ c.new-own.ensures.items c.in_ok-need.ensures)
-          (c.in-Ok.ensures.items ∙ ap (λ z. c.args.met.now.items ++ z) c.deref.ensures.value);
+          (c.in_ok-extend_from_slice.ensures.items ∙ ap (λ z. c.args.met.now.items ++ z) c.deref.ensures.value);
       firings = c.requires.firings;
     }

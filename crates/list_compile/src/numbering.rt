@@ -156,8 +156,9 @@ impl<'a> Numbering<'a> {
         ensures group { result ≡ places.group_at (chart_in self.now) state }
         ensures low { result ≤ limits.LISTS_START_LIMIT }
     {
+        let states = self.states();
         let before = entry(&self.groups, state + 1);
-        self.groups_start() + entry(&self.groups, self.states()).saturating_sub(before)
+        self.groups_start() + entry(&self.groups, states).saturating_sub(before)
     }
 
     /// The number of the outer list of a state.
@@ -166,8 +167,9 @@ impl<'a> Numbering<'a> {
         ensures lists { result ≡ places.lists_at (chart_in self.now) state }
         ensures low { result ≤ limits.PROCESSES_START_LIMIT }
     {
+        let states = self.states();
         let before = entry(&self.lists, state + 1);
-        self.lists_start() + entry(&self.lists, self.states()).saturating_sub(before)
+        self.lists_start() + entry(&self.lists, states).saturating_sub(before)
     }
 
     /// The number of the first part of a transition of a list of a state.
@@ -226,6 +228,8 @@ impl<'a> Numbering<'a> {
         requires dest { dest < state_count (chart_in self.now).tree }
         ensures { result ≡ (places.numbers (chart_in self.now)).arrive state dest }
     {
+        // Only the proof reads the number of states: it is small.
+        let _ = self.states();
         match dest.saturating_sub(state) {
             0 => self.group(state) + ARRIVE_OFFSET + self.below(state) + self.default(state),
             more => self.group(state) + EXIT_OFFSET + more,
@@ -239,6 +243,8 @@ impl<'a> Numbering<'a> {
         requires dest { dest < state_count (chart_in self.now).tree }
         ensures { result ≡ (places.numbers (chart_in self.now)).take state dest }
     {
+        // Only the proof reads the number of states: it is small.
+        let _ = self.states();
         self.group(state)
             + TAKE_OFFSET
             + self.below(state)
@@ -253,6 +259,8 @@ impl<'a> Numbering<'a> {
         requires dest { dest < state_count (chart_in self.now).tree }
         ensures { result ≡ (places.numbers (chart_in self.now)).enter state dest }
     {
+        // Only the proof reads the number of states: it is small.
+        let _ = self.states();
         self.group(state)
             + ENTER_OFFSET
             + 2 * self.below(state)

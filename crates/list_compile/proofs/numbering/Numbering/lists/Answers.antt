@@ -16,8 +16,8 @@ returns-clause-lists c =
       c.entry.ensures,
       c.entry-before.ensures,
       c.saturating_sub.ensures,
-      table.each c.states.result (omega (arith, c.states.ensures.states)),
-      ap (sum_to f) c.states.ensures.states,
+      table.each c.states-states.result (omega (arith, c.states-states.ensures.states)),
+      ap (sum_to f) c.states-states.ensures.states,
       table.each (c.args.state + 1) (omega (arith, c.requires)),
       ap (sum_to f) next,
     )

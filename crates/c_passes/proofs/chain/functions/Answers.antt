@@ -9,7 +9,7 @@ loop-number-init c = none_so_far _ _ c.new-made.ensures.items
 
 pub loop-number-preserved : goal.loop-number-preserved
 loop-number-preserved c =
-    one_more _ _ _ _ c.in_ok-looped.field-0 c.loop-number.invariant c.in_ok-looped.ensures c.in_ok-push.ensures
+    one_more _ _ _ _ c.in_ok-looped.field-0 c.loop-number.invariant c.in_ok-looped.ensures c.in_ok-push.ensures.items
 
 pub returns : goal.returns
 returns c =

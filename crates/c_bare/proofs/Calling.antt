@@ -26,7 +26,7 @@ same-width W128 W128 e = refl
 same-width v w e = absurd cc
 
 -- what has the same type has it
-type-is : (u t : CType) → same_type u t ≡ true → u ≡ t
+pub type-is : (u t : CType) → same_type u t ≡ true → u ≡ t
 type-is (Signed v) (Signed w) e = ap (λ (w : Width). Signed w) (same-width v w e)
 type-is (Unsigned v) (Unsigned w) e = ap (λ (w : Width). Unsigned w) (same-width v w e)
 type-is Truth Truth e = refl
@@ -35,13 +35,13 @@ type-is u t e = absurd cc
 -- ---- results
 
 -- a function returns what its statements do
-returned-alike : (r : CType → ℕ → Bool) (t : CType) (o p : Outcome) → Keeps r o p → Alike (returned t o) (returned t p)
+pub returned-alike : (r : CType → ℕ → Bool) (t : CType) (o p : Outcome) → Keeps r o p → Alike (returned t o) (returned t p)
 returned-alike r t (Falls s l) p h = λ v x e. absurd cc
 returned-alike r t (Returns s y) p h = λ v x e. ap (returned t) h ∙ e
 returned-alike r t Starves p h = λ v x e. absurd cc
 returned-alike r t GoesWrong p h = λ v x e. absurd cc
 
-value-alike : (m : Meaning) (f g : CValue → Outcome) → ((x : CValue) → Alike (f x) (g x))
+pub value-alike : (m : Meaning) (f g : CValue → Outcome) → ((x : CValue) → Alike (f x) (g x))
     → Alike (with_value m f) (with_value m g)
 value-alike (Gives x) f g h = h x
 value-alike Wrong f g h = λ v x e. absurd cc
@@ -87,7 +87,7 @@ arguments-unneeded flags a (t ∷ ts) (x ∷ xs) k l f o none is h =
     by Wrong f h = λ v y e. absurd cc
 
 -- arguments that are handed over
-arguments-alike : (ts : List CType) (xs : List CValue) (k : ℕ) (l : Locals) (f g : Locals → Outcome)
+pub arguments-alike : (ts : List CType) (xs : List CValue) (k : ℕ) (l : Locals) (f g : Locals → Outcome)
     → ((l : Locals) → Alike (f l) (g l)) → Alike (with_arguments ts xs k l f) (with_arguments ts xs k l g)
 unfolding with_arguments
 arguments-alike [] [] k l f g h = h l

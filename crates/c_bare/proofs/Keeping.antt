@@ -128,20 +128,20 @@ Keeps r (Returns s x) o = o ≡ Returns s x
 Keeps r Starves o = Unit {0}
 Keeps r GoesWrong o = Unit {0}
 
-value-keeps : (r : CType → ℕ → Bool) (a b : Meaning) (f g : CValue → Outcome) → Clearer a b
+pub value-keeps : (r : CType → ℕ → Bool) (a b : Meaning) (f g : CValue → Outcome) → Clearer a b
     → ((x : CValue) → Keeps r (f x) (g x)) → Keeps r (with_value a f) (with_value b g)
 value-keeps r Wrong b f g c h = tt
 value-keeps r (Gives x) b f g (inl e) h = absurd cc
 value-keeps r (Gives x) b f g (inr e) h = subst (λ (n : Meaning). Keeps r (f x) (with_value n g)) (sym e) (h x)
 
-on-keeps : (q r : CType → ℕ → Bool) (o p : Outcome) (f g : Store → Locals → Outcome) → Keeps q o p
+pub on-keeps : (q r : CType → ℕ → Bool) (o p : Outcome) (f g : Store → Locals → Outcome) → Keeps q o p
     → ((s : Store) (l m : Locals) → Sub q l m → Keeps r (f s l) (g s m)) → Keeps r (and_on o f) (and_on p g)
 on-keeps q r (Falls s l) p f g e h = subst (λ (o : Outcome). Keeps r (f s l) (and_on o g)) (sym e.1) (h s l e.0 e.2)
 on-keeps q r (Returns s x) p f g e h = ap (λ (o : Outcome). and_on o g) e
 on-keeps q r Starves p f g e h = tt
 on-keeps q r GoesWrong p f g e h = tt
 
-cond-keeps : (r : CType → ℕ → Bool) (b : Bool) (o p o' p' : Outcome) → Keeps r o o' → Keeps r p p'
+pub cond-keeps : (r : CType → ℕ → Bool) (b : Bool) (o p o' p' : Outcome) → Keeps r o o' → Keeps r p p'
     → Keeps r (cond b o p) (cond b o' p')
 cond-keeps r true o p o' p' h i = h
 cond-keeps r false o p o' p' h i = i
@@ -150,7 +150,7 @@ cond-keeps r false o p o' p' h i = i
 abbrev pub Alike : Outcome → Outcome → Type 0
 Alike o p = (s : Store) (x : CValue) → o ≡ Returns s x → p ≡ Returns s x
 
-called-keeps : (r : CType → ℕ → Bool) (o p : Outcome) (t : CType) (i : ℕ) (l m : Locals)
+pub called-keeps : (r : CType → ℕ → Bool) (o p : Outcome) (t : CType) (i : ℕ) (l m : Locals)
     (f g : Store → Locals → Outcome) → Alike o p
     → ((s : Store) (z : ℤ) → Keeps r (f s (with_local l t i z)) (g s (with_local m t i z)))
     → Keeps r (called o t i l f) (called p t i m g)
@@ -163,7 +163,7 @@ called-keeps r Starves p t i l m f g e h = tt
 called-keeps r GoesWrong p t i l m f g e h = tt
 
 module _ (flags : List Bool) (int : Width) (s : Store) where
-  values-keep : (r : CType → ℕ → Bool) (l m : Locals) (es : List CExpr) (f g : List CValue → Outcome)
+  pub values-keep : (r : CType → ℕ → Bool) (l m : Locals) (es : List CExpr) (f g : List CValue → Outcome)
       → Sub (λ t i. list_any (reads t i) es) l m → ((xs : List CValue) → Keeps r (f xs) (g xs))
       → Keeps r (with_values int s l es f) (with_values int s m es g)
   unfolding with_values
@@ -195,7 +195,7 @@ module _ (flags : List Bool) (int : Width) (s : Store) where
   arguments-keep true r l m es f g sub h = values-gone r l es f (g []) h
   arguments-keep false r l m es f g sub h = values-keep r l m es f g sub h
 
-turns-keep : (w q : CType → ℕ → Bool) (j : ℕ) (test : Store → Locals → Meaning) (f g : Store → Locals → Outcome)
+pub turns-keep : (w q : CType → ℕ → Bool) (j : ℕ) (test : Store → Locals → Meaning) (f g : Store → Locals → Outcome)
     → ((s : Store) (l m : Locals) → Sub w l m → Clearer (test s l) (test s m))
     → ((s : Store) (l m : Locals) → Sub w l m → Keeps w (f s l) (g s m))
     → ((l m : Locals) → Sub w l m → Sub q l m) → (s : Store) (l m : Locals) → Sub w l m
@@ -210,7 +210,7 @@ turns-keep w q (suc j) test f g c h after s l m sub =
     (on-keeps w q (f s l) (g s m) (turns j test f) (turns j test g) (h s l m sub)
     (λ s l m sub. turns-keep w q j test f g c h after s l m sub)) (m, refl, after l m sub))
 
-selected-keeps : (flags : List Bool) (r : CType → ℕ → Bool) (t : CType) (z : ℤ) (cases : List Case) (f g : ℕ → Outcome)
+pub selected-keeps : (flags : List Bool) (r : CType → ℕ → Bool) (t : CType) (z : ℤ) (cases : List Case) (f g : ℕ → Outcome)
     (o p : Outcome) → not (calls_bare flags cases) ≡ true → ((n : ℕ) → is_bare flags n ≡ false → Keeps r (f n) (g n))
     → Keeps r o p
     → Keeps r (selected t z cases f o) (selected t z cases g p)

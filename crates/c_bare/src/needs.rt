@@ -59,8 +59,8 @@ fn is_same(left: CType, right: CType) -> bool
     }
 }
 
-/// Whether it is the local of a type with a number.
-fn is_it(of: CType, local: usize, own: CType, number: u32) -> bool
+/// Whether a local is that of a type with a number.
+pub fn is_it(of: CType, local: usize, own: CType, number: u32) -> bool
     ensures { result ≡ spec.is_it of local own number }
 {
     local == number as usize && is_same(of, own)

@@ -1,0 +1,4 @@
+pub mod LiveLemmas
+pub mod Within
+pub mod Keeping
+pub mod Calling

@@ -162,7 +162,8 @@ fn local_set(lines: &[Line], line: &Line) -> Option<LocalName>
     ensures { result ≡ spec.local_set (lines_in lines.now) (line_of line.now) }
 {
     match line {
-        Line::Set(of, number, _) | Line::Call(of, number, _, _) => read_local(lines, *of, *number),
+        Line::Set(of, number, _) => read_local(lines, *of, *number),
+        Line::Call(of, number, _, _) => read_local(lines, *of, *number),
         Line::Select(of, number, _, cases, _) => {
             if has_cases(cases.items()) {
                 read_local(lines, *of, *number)

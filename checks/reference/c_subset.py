@@ -90,7 +90,7 @@ Choice = namedtuple('Choice', 'test type yes no')             # the type is that
 SetLocal = namedtuple('SetLocal', 'line local value')
 SetField = namedtuple('SetField', 'line name value')
 SetElement = namedtuple('SetElement', 'line array index value')
-Call = namedtuple('Call', 'line local function with_m arguments')
+Call = namedtuple('Call', 'line local function with_m arguments')     # the local is None where what is returned isn't used
 Switch = namedtuple('Switch', 'line value cases')            # the cases are pairs of a label and a call
 If = namedtuple('If', 'line test yes no')
 While = namedtuple('While', 'line test body')
@@ -295,6 +295,7 @@ class Reader:
         self.place, self.widths, self.included = 0, Widths(int_bits), directives.included
         self.types, self.file, self.struct = {}, File({}, {}, {}, {}), None
         self.prototypes, self.locals, self.with_m, self.only_reads, self.wide_names = {}, {}, False, False, {}
+        self.declared, self.undeclared = {}, []             # heads of functions by name; calls that stand before all of them
 
     # -- single words
 
@@ -378,6 +379,13 @@ class Reader:
         for name in self.prototypes:
             if name not in self.file.functions:
                 self.refuse('there is no function `%s`' % name)
+        for name, line in self.undeclared:
+            if name in self.file.functions:
+                raise Refused(line, '`%s` is called before it is declared' % name)
+        for function in self.file.functions.values():
+            for name in function.locals:
+                if name in self.file.functions:
+                    self.refuse('the local `%s` has the name of a function' % name)
         return self.file
 
     def constants(self):
@@ -444,7 +452,7 @@ class Reader:
         elif head.name in self.prototypes:
             self.refuse('a function has one prototype')
         else:
-            self.prototypes[head.name] = head
+            self.prototypes[head.name] = self.declared[head.name] = head
 
     def inline_function(self):
         """`T f(const S *m) { return e; }`, which changes nothing."""
@@ -496,19 +504,16 @@ class Reader:
                         list(parameters), parameters, [], False)
 
     def function(self, head):
-        if head.name not in self.prototypes or self.prototypes[head.name].head != head.head:
-            self.refuse('the prototype of `%s` is missing or another one' % head.name)
+        if self.declared.setdefault(head.name, head).head != head.head:
+            self.refuse('the prototype of `%s` is another one' % head.name)
         self.locals, self.with_m = dict(head.locals), head.with_m
         self.want('{')
         while self.type_ahead():
             type_ = self.type()
             self.locals[self.new_name(self.locals, 'local')] = type_
             self.want(';')
-        while self.ahead('(', 'void', ')'):
+        while self.ahead('(', 'void', ')') and self.tokens[self.place + 4].text == ';':
             self.unread(head)
-        for name in self.locals:
-            if name in self.prototypes:
-                self.refuse('the local `%s` has the name of a function' % name)
         body = self.statements()
         self.file.functions[head.name] = head._replace(locals=self.locals, body=body)
 
@@ -536,6 +541,8 @@ class Reader:
                 return rest(line)
         if self.take('m ->'):
             return self.store(line)
+        if self.take('( void )'):
+            return self.call(line, None)
         local = self.local()
         self.want('=')
         is_name = self.tokens[self.place].kind == 'name' and self.tokens[self.place].text not in ('INT64_C', 'UINT64_C')
@@ -579,7 +586,9 @@ class Reader:
             if with_m or arguments:
                 self.want(',')
             arguments.append(self.expression())
-        called = self.prototypes.get(function)
+        called = self.declared.get(function)
+        if called is None:
+            self.undeclared.append((function, line))
         if called and with_m and self.only_reads and 'const' not in called.head:
             self.refuse('this function only reads m, and `%s` may change it' % function)
         self.want(';')
@@ -618,13 +627,20 @@ class Reader:
         while self.take('case'):
             label = self.number(None)
             self.want(':')
-            case_line, local = self.line(), self.local()
-            self.want('=')
-            cases.append((label, self.call(case_line, local)))
+            cases.append((label, self.call_in_case()))
             self.want('break ;')
         self.want('default : break ; }')
         self.demand_cases(value, cases)
         return Switch(line, value, cases)
+
+    def call_in_case(self):
+        """`x = f(m, e, ..);`, or `(void)f(m, e, ..);`."""
+        line = self.line()
+        if self.take('( void )'):
+            return self.call(line, None)
+        local = self.local()
+        self.want('=')
+        return self.call(line, local)
 
     def demand_cases(self, value, cases):
         """Refuses cases that set different locals, pass different arguments, or have the same label."""
@@ -935,7 +951,8 @@ class Run:
     def call(self, s, frame):
         arguments = [self.number(each, frame) for each in s.arguments]
         returned = self.called(s.function, arguments, frame.fuel)
-        frame.values[s.local] = brought(returned.number, frame.function.locals[s.local])
+        if s.local is not None:
+            frame.values[s.local] = brought(returned.number, frame.function.locals[s.local])
 
     def switch(self, s, frame):
         number, type_ = self.value(s.value, frame)

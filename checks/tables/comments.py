@@ -7,7 +7,8 @@ The comment above a function names the event and the home for which it is, where
 where the home is Door/Open`, ` and the home is the chart`. `, where the event is another one` are those that no comment of the same
 part and the same home names. Nothing is said of them where no more stands there, nor where `, and what is equal to it` admits
 others. Each function is given a test that its parameters `event` and `home` are so, at its beginning and at each turn of the loop
-that takes the place of a call of itself. The C is compiled by gcc, and starts and takes E random events of the chart or ticks,
+that takes the place of a call of itself. In a chart without sends the event is that of the start or the reaction, also in functions
+without that parameter. Else nothing is compared of what a function isn't given. The C is compiled by gcc, and starts and takes E random events of the chart or ticks,
 2,000 where nothing is said, with random values of the inputs; after a fault it starts again.
 
 A line tells each function that is called with another event or home than its comment names. At the end stands how many comments
@@ -40,6 +41,7 @@ BEFORE = r'''
 #include <stdio.h>
 static bool was_called[%(count)d];
 static bool was_told[%(count)d];
+static uint32_t given_event;
 static void compare_call(unsigned number, bool is_right, uint32_t event, uint32_t home)
 {
     was_called[number] = true;
@@ -74,8 +76,10 @@ int main(void)
     for (unsigned turn = 0u; turn < %(turns)du; turn++) {
         if (runs) {
 %(inputs)s
-            runs = %(name)s_react(&chart, events[choose() %% (sizeof events / sizeof events[0])]);
+            given_event = events[choose() %% (sizeof events / sizeof events[0])];
+            runs = %(name)s_react(&chart, given_event);
         } else {
+            given_event = %(start)du;
             runs = %(name)s_init(&chart) && %(name)s_start(&chart);
         }
     }
@@ -102,6 +106,10 @@ class Function(NamedTuple):
     home: str
     is_shared: bool
 
+    def knows(self, parameter, has_sends):
+        """Whether it is known what the parameter is at each call."""
+        return parameter in self.parameters or (parameter == 'event' and not has_sends)
+
     def names(self, parameter):
         """Whether the words name the only value that a parameter may have, or those that it may not have."""
         return not self.is_shared and getattr(self, parameter) is not None
@@ -121,15 +129,15 @@ class Numbers:
     def __init__(self, chart):
         self.events = {event.name: number for number, event in enumerate(chart.events)}
         self.inputs = [number for number, event in enumerate(chart.events) if event.kind == 'input']
-        self.tick = len(self.events)
+        self.tick, self.start = len(self.events), len(self.events) + 1
         self.events.update({'a tick': self.tick, 'the start': self.tick + 1})
         self.states = {state.path() if state.parent else 'the chart': number for number, state in enumerate(chart.states)}
 
-    def event_test(self, event, named):
-        """C that holds where the event is the one that is said; the named ones are those of the part."""
+    def event_test(self, name, event, named):
+        """C that holds where the event that has a name in C is the one that is said; the named ones are those of the part."""
         if event == OTHER:
-            return ' && '.join('event != %du' % self.events[each] for each in sorted(named)) or 'true'
-        return 'event == %du' % self.events[event]
+            return ' && '.join('%s != %du' % (name, self.events[each]) for each in sorted(named)) or 'true'
+        return '%s == %du' % (name, self.events[event])
 
     def called_with(self, event, home):
         """Words for the event and the home of a call."""
@@ -138,24 +146,25 @@ class Numbers:
         return 'the event is %s and the home is %s' % (words.get(event, event), states.get(home, home))
 
 
-def test_of(function, place, numbers, functions):
+def test_of(function, place, numbers, functions, has_sends):
     """A line of C that tests a call."""
+    event = 'event' if 'event' in function.parameters else 'given_event'
     named = {each.event for each in functions if (each.part, each.home) == (function.part, function.home)} - {None, OTHER}
     tests = []
-    if function.names('event') and 'event' in function.parameters:
-        tests.append('(%s)' % numbers.event_test(function.event, named))
-    if function.names('home') and 'home' in function.parameters:
+    if function.names('event') and function.knows('event', has_sends):
+        tests.append('(%s)' % numbers.event_test(event, function.event, named))
+    if function.names('home') and function.knows('home', has_sends):
         tests.append('(home == %du)' % numbers.states[function.home])
-    given = [each if each in function.parameters else '0u' for each in ('event', 'home')]
-    return '    compare_call(%du, %s, %s);\n' % (place, ' && '.join(tests) or 'true', ', '.join(given))
+    home = 'home' if 'home' in function.parameters else '0u'
+    return '    compare_call(%du, %s, %s, %s);\n' % (place, ' && '.join(tests) or 'true', event, home)
 
 
-def with_tests(source, numbers):
+def with_tests(source, numbers, has_sends):
     """The source with a test in each function, and its functions."""
     matches = list(FUNCTION.finditer(source))
     functions = list(map(function_of, matches))
     for place, match in reversed(list(enumerate(matches))):
-        test = test_of(functions[place], place, numbers, functions)
+        test = test_of(functions[place], place, numbers, functions, has_sends)
         body = test + LOOP.sub(lambda loop: loop[0] + test, match[4])
         source = source[:match.start(4)] + body + source[match.end(4):]
     return source, functions
@@ -170,12 +179,13 @@ def stored(datum):
         field_of(datum), field_of(datum), width, 'true' if sign == 's' else 'false')
 
 
-def program_of(chart, source, seed, turns):
+def program_of(chart, source, seed, turns, has_sends):
     """The C of a chart with tests and a `main`, and its functions."""
     numbers = Numbers(chart)
-    source, functions = with_tests(source.replace('\\\n', ''), numbers)
+    source, functions = with_tests(source.replace('\\\n', ''), numbers, has_sends)
     parts = {
         'name': c_name(chart), 'count': len(functions), 'seed': seed, 'turns': turns,
+        'start': numbers.start,
         'events': ', '.join('%du' % number for number in [*numbers.inputs, numbers.tick]),
         'inputs': '\n'.join(stored(datum) for datum in chart.data if datum.kind == 'input'),
     }
@@ -192,34 +202,36 @@ class Comparison:
         self.options, self.folder = options, folder
 
     def calls_of(self, text, bounds, seed):
-        """The functions of a chart's C, the numbers of those that were called, the wrong calls, and the chart's numbers."""
-        chart = check_chart(text)
+        """The functions of a chart's C, the numbers of those that were called, the wrong calls, the chart's numbers, and whether it may
+        send."""
+        chart, has_sends = check_chart(text), 'send' in text
         with tempfile.TemporaryDirectory(dir=self.folder) as folder:
             write(folder, 'chart', text)
             header, source = (output_of([self.options.against, word, *words_for(bounds), 'chart'], folder)
                               for word in ('header', 'source'))
             write(folder, chart.root.name + '.h', header)
-            source, functions = program_of(chart, source, seed, self.options.events)
+            source, functions = program_of(chart, source, seed, self.options.events, has_sends)
             write(folder, 'program.c', source)
             recursion = '-D%s_MAY_RECURSE' % c_name(chart)
             output_of(['gcc', '-std=gnu99', '-O0', '-w', recursion, 'program.c', '-o', 'program'], folder)
             told = [line.split() for line in output_of(['./program'], folder).splitlines()]
         called = {int(line[1]) for line in told if line[0] == 'called'}
-        return functions, called, [tuple(map(int, line[1:])) for line in told if line[0] == 'wrong'], Numbers(chart)
+        return functions, called, [tuple(map(int, line[1:])) for line in told if line[0] == 'wrong'], Numbers(chart), has_sends
 
     def compared(self, name, text, bounds, seed):
         """Lines that tell what is wrong of a chart, and counts of what was met."""
         try:
-            functions, called, wrong, numbers = self.calls_of(text, bounds, seed)
+            functions, called, wrong, numbers, has_sends = self.calls_of(text, bounds, seed)
         except Failed as failed:
             return ['%s: %s' % (name, failed)], Counter({'charts': 1})
-        says = [place for place, each in enumerate(functions) if each.names('event') or each.names('home')]
+        says = [place for place, each in enumerate(functions)
+                if any(each.names(name) and each.knows(name, has_sends) for name in ('event', 'home'))]
         counts = Counter({
             'charts': 1, 'charts with a wrong comment': bool(wrong), 'functions': len(functions), 'functions that were called': len(called),
-            'comments that name an event or a home': len(says),
+            'comments that name an event or a home that is known': len(says),
             'comments that do, of functions that were called': len(called.intersection(says)),
-            'comments that name what the function is not given': sum(
-                any(each.names(name) and name not in each.parameters for name in ('event', 'home')) for each in functions),
+            'comments that name what is not known': sum(
+                any(each.names(name) and not each.knows(name, has_sends) for name in ('event', 'home')) for each in functions),
             'wrong comments': len(wrong)})
         return ['%s: %s, %s: called where %s' % (name, functions[place].name, functions[place].words, numbers.called_with(event, home))
                 for place, event, home in wrong], counts

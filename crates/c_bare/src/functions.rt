@@ -138,13 +138,13 @@ fn kept(alloc: Global, is_bare: bool, types: List<CType>) -> List<CType>
 pub fn bare_function(
     alloc: Global,
     flags: &[bool],
-    number: u32,
+    number: usize,
     function: Function,
 ) -> Result<Function, Memory>
     ensures { IfOk result (λ made. (g : c.Function) → IsFunction function g →
         IsFunction made (bared flags.now number g)) }
 {
-    let parameters = kept(alloc, is_bare(flags, number as usize), function.parameters);
+    let parameters = kept(alloc, is_bare(flags, number), function.parameters);
     let lines = fewer_lines(alloc, flags, function.lines)?;
     Ok(Function {
         result: function.result,

@@ -2,6 +2,7 @@ pub mod CallLemmas
 pub mod ChangeLemmas
 pub mod ReachLemmas
 pub mod HeightLemmas
+pub mod OrderLemmas
 pub mod AskLemmas
 pub mod FunctionLemmas
 pub mod PassLemmas

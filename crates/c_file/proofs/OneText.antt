@@ -23,17 +23,17 @@ same_flags x y a b =
     (λ h. b.complete f (a.sound f h)) (λ h. a.complete f (b.sound f h)))
 
 module _ (L : Labels) (functions : List Function) where
-  -- so there is one text for one number of calls
+  -- so there is one text for one order and one number of calls
   pub one_text : (said : List (List ℕ)) (identity : Identity) (bounds : Bounds) (outputs notes : ℕ)
-      (facts facts' : SourceFacts) (x y v w : List Bool) → AreFacts L functions x facts → AreFacts L functions y facts'
+      (facts facts' : SourceFacts) (x y v w : List Bool) (order : List ℕ) → AreFacts L functions x facts → AreFacts L functions y facts'
       → AreChanging L functions v → AreChanging L functions w → calls_number facts.calls ≡ calls_number facts'.calls
-      → source_text L said identity bounds outputs notes (calls_number facts.calls) functions x v
-      ≡ source_text L said identity bounds outputs notes (calls_number facts'.calls) functions y w
-  one_text said identity bounds outputs notes facts facts' x y v w a b d e calls =
+      → source_text L said identity bounds outputs notes (calls_number facts.calls) functions x v order
+      ≡ source_text L said identity bounds outputs notes (calls_number facts'.calls) functions y w order
+  one_text said identity bounds outputs notes facts facts' x y v w order a b d e calls =
       ap (λ (written : List Bool).
-      source_text L said identity bounds outputs notes (calls_number facts.calls) functions written v)
+      source_text L said identity bounds outputs notes (calls_number facts.calls) functions written v order)
       (same_flags x y a.reached b.reached)
       ∙ ap (λ (changing : List Bool).
-      source_text L said identity bounds outputs notes (calls_number facts.calls) functions y changing)
+      source_text L said identity bounds outputs notes (calls_number facts.calls) functions y changing order)
       (same_flags v w d e)
-      ∙ ap (λ (n : ℕ). source_text L said identity bounds outputs notes n functions y w) calls
+      ∙ ap (λ (n : ℕ). source_text L said identity bounds outputs notes n functions y w order) calls

@@ -19,30 +19,30 @@ second_true true false h k = absurd (cc h)
 second_true false b h k = absurd (cc k)
 
 -- alternatives are joined
-either_joined : (a b c : Bool) → ((a || b) || c) ≡ (a || (b || c))
+pub either_joined : (a b c : Bool) → ((a || b) || c) ≡ (a || (b || c))
 either_joined true b c = refl
 either_joined false b c = refl
 
-either_none : (a : Bool) → (a || false) ≡ a
+pub either_none : (a : Bool) → (a || false) ≡ a
 either_none true = refl
 either_none false = refl
 
 -- ---- flags
 
 -- a flag that isn't set is there
-unset_there : (bs : List Bool) (p : ℕ) → slice_index_or bs p true ≡ false → p < length bs
+pub unset_there : (bs : List Bool) (p : ℕ) → slice_index_or bs p true ≡ false → p < length bs
 unset_there [] p h = absurd (cc h)
 unset_there (b ∷ bs) zero h = omega arith
 unset_there (b ∷ bs) (suc p) h = let rest = unset_there bs p h in omega (arith, rest)
 
 -- and so is one that is set
-set_there : (bs : List Bool) (p : ℕ) → IsFlagged bs p → p < length bs
+pub set_there : (bs : List Bool) (p : ℕ) → IsFlagged bs p → p < length bs
 set_there [] p h = absurd (cc h)
 set_there (b ∷ bs) zero h = omega arith
 set_there (b ∷ bs) (suc p) h = let rest = set_there bs p h in omega (arith, rest)
 
 -- where there is a flag, it is the same whatever stands where there is none
-same_flag : (bs : List Bool) (p : ℕ) → p < length bs → slice_index_or bs p true ≡ true → IsFlagged bs p
+pub same_flag : (bs : List Bool) (p : ℕ) → p < length bs → slice_index_or bs p true ≡ true → IsFlagged bs p
 same_flag [] p lt h = absurd (omega (arith, lt))
 same_flag (b ∷ bs) zero lt h = h
 same_flag (b ∷ bs) (suc p) lt h = same_flag bs p (omega (arith, lt)) h

@@ -78,22 +78,22 @@ module _ {c : Chart} {w : Written} {made : Made} (is : IsMadeFor c w made) where
       (subst (λ (fs : List Function). AreChanging (labels_of made.labels) fs changing) functions_made are)
 
   -- their source is that for the code
-  pub source_is : (written changing : List Bool) (facts : SourceFacts) (identity : Identity)
+  pub source_is : (written changing : List Bool) (order : List ℕ) (facts : SourceFacts) (identity : Identity)
       → source_text (labels_of made.labels) (said_of made.said) identity made.shape.bounds made.shape.outputs
-      made.shape.notes (calls_number facts.calls) (functions_of made) written changing
+      made.shape.notes (calls_number facts.calls) (functions_of made) written changing order
       ≡ source_for c (tests_seen w.tests) w.limits w.outputs (code_of w.code) w.origins.items w.tags.items facts
-      file_made.functions written changing identity
-  source_is written changing facts identity =
+      file_made.functions written changing order identity
+  source_is written changing order facts identity =
       let k : Code = code_of w.code in
       let n : ℕ = calls_number facts.calls in
       ap (λ (L : Labels). source_text L (said_of made.said) identity made.shape.bounds made.shape.outputs
-      made.shape.notes n (functions_of made) written changing) is.names
+      made.shape.notes n (functions_of made) written changing order) is.names
       ∙ ap (λ (xs : List (List ℕ)). source_text (names_in c k) xs identity made.shape.bounds made.shape.outputs
-      made.shape.notes n (functions_of made) written changing) is.said
+      made.shape.notes n (functions_of made) written changing order) is.said
       ∙ ap (λ (fs : List Function). source_text (names_in c k) (comments_in c w.origins.items w.tags.items) identity
-      made.shape.bounds made.shape.outputs made.shape.notes n fs written changing) functions_made
+      made.shape.bounds made.shape.outputs made.shape.notes n fs written changing order) functions_made
       ∙ ap (λ (S : Shape). source_text (names_in c k) (comments_in c w.origins.items w.tags.items) identity
-      S.bounds S.outputs S.notes n file_made.functions written changing) is.shape
+      S.bounds S.outputs S.notes n file_made.functions written changing order) is.shape
 
   -- and so is their header
   pub header_is : (facts : SourceFacts) (identity : Identity)

@@ -35,6 +35,7 @@ use Rattle.c_file.specs.Changing.{AreChanging}
 use Rattle.c_file.specs.Comments.{IsTagOf, comments_for, said_of}
 use Rattle.c_file.specs.Facts.{AreFacts}
 use Rattle.c_file.specs.Made.{IsMade, functions_of}
+use Rattle.c_file.specs.Order.{IsOrder}
 use Rattle.c_file.specs.Source.{source_text}
 
 -- the name of a chart is that of its root
@@ -109,34 +110,37 @@ abbrev pub header_for : Chart → Tests → Bounds → ℕ → Code → SourceFa
 header_for c T limits room k facts identity =
     header_text (names_in c k).chart (shape_of k T limits room) facts identity
 
--- its source: those of these functions that are written, each procedure under words for the part of the chart that it is
--- of and for what it is a copy, where some may change the struct, and the check that the header has the same bounds, the
--- same numbers of outputs, notes and calls, and the sum of the same chart
+-- its source: those of these functions that are written, in that order, each procedure under words for the part of the
+-- chart that it is of and for what it is a copy, where some may change the struct, and the check that the header has the
+-- same bounds, the same numbers of outputs, notes and calls, and the sum of the same chart
 abbrev pub source_for : Chart → Tests → Bounds → ℕ → Code → List ℕ → List Tag → SourceFacts → List Function → List Bool
-    → List Bool → Identity → List ℕ
-source_for c T limits room k origins tags facts functions written changing identity =
+    → List Bool → List ℕ → Identity → List ℕ
+source_for c T limits room k origins tags facts functions written changing order identity =
     source_text (names_in c k) (comments_in c origins tags) identity limits room (shape_of k T limits room).notes
-    (calls_number facts.calls) functions written changing
+    (calls_number facts.calls) functions written changing order
 
 -- both files are those of what they are made from, in lines, for lists of the functions that are reached and of those that
--- may change the struct, and facts that hold
+-- may change the struct, an order of the former, and facts that hold
 pub record IsPrinted (made : Made) (identity : Identity) (files : CFiles) : Type 0 where
   pub written : List Bool
   pub changing : List Bool
+  pub order : List ℕ
   pub facts : SourceFacts
   pub hold : AreFacts (labels_of made.labels) (functions_of made) written facts
   pub may_change : AreChanging (labels_of made.labels) (functions_of made) changing
+  pub is_order : IsOrder written order
   pub header_is : IsInLines (header_text made.name.now (shape_seen made.shape) facts identity)
       (string_bytes files.header)
   pub source_is : IsInLines
       (source_text (labels_of made.labels) (said_of made.said) identity made.shape.bounds made.shape.outputs
-      made.shape.notes (calls_number facts.calls) (functions_of made) written changing) (string_bytes files.source)
+      made.shape.notes (calls_number facts.calls) (functions_of made) written changing order) (string_bytes files.source)
 
 -- The two texts are header and source of a chart, of this making: both of one code, made of the chart's smaller code,
 -- with the tests, limits and room that it needs under the bounds that were asked for, and arrays of sizes that C takes;
 -- and of one file, made by passes of that of the code. The header says the facts that hold of the functions of the file,
--- and the source has those that are reached, with a struct that is const but where a function may change it. No line of
--- either is too long. The file runs as the rules say under these bounds.
+-- and the source has those that are reached, each once, in some order, where those that are called before they stand are
+-- declared, with a struct that is const but where a function may change it. No line of either is too long. The file runs
+-- as the rules say under these bounds.
 pub record IsC (c : Chart) (identity : Identity) (header source : List ℕ) : Type 0 where
   pub code : Code
   pub tags : List Tag
@@ -147,6 +151,7 @@ pub record IsC (c : Chart) (identity : Identity) (header source : List ℕ) : Ty
   pub file : File
   pub written : List Bool
   pub changing : List Bool
+  pub order : List ℕ
   pub facts : SourceFacts
   pub is_written : IsWritten c identity.bounds code tags origins
   pub limits_are : AreLimits code identity.bounds tests limits room
@@ -154,9 +159,10 @@ pub record IsC (c : Chart) (identity : Identity) (header source : List ℕ) : Ty
   pub passed : IsPassed (shape_of code tests limits room) (file_of code tests limits room (plans_of code)) file
   pub hold : AreFacts (names_in c code) file.functions written facts
   pub may_change : AreChanging (names_in c code) file.functions changing
+  pub is_order : IsOrder written order
   pub header_is : IsInLines (header_for c tests limits room code facts identity) header
   pub source_is : IsInLines
-      (source_for c tests limits room code origins tags facts file.functions written changing identity) source
+      (source_for c tests limits room code origins tags facts file.functions written changing order identity) source
   pub runs : FileRunsAsRules c identity.bounds (shape_of code tests limits room) file
 
 -- the text is the header of a chart's C, beside some source

@@ -3,6 +3,8 @@ pub mod Changing
 pub mod Uses
 pub mod Reached
 pub mod Closing
+pub mod Order
+pub mod Ordering
 pub mod Heights
 pub mod Source
 pub mod Facts

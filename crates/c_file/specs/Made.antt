@@ -10,8 +10,10 @@ use Rattle.c_readers.specs.Readers.{stores}
 use Rattle.c_passes.specs.Passed.{ArePassed, functions_in, written_file}
 use Rattle.c_file.specs.declared.made.Made.{Made}
 use Rattle.c_file.specs.declared.known.Uses.{Uses}
+use Rattle.c_file.specs.declared.order.Order.{Order}
 use Rattle.c_file.specs.Comments.{AreOfChart}
 use Rattle.c_file.specs.Calls.{calls_in, calls_from}
+use Rattle.c_file.specs.Order.{IsOrder, declared_in}
 use Rattle.c_file.specs.Reached.{AreReached, outside_of}
 use Rattle.c_file.specs.Changing.{AreChanging, first_changes}
 use Rattle.c_file.specs.Uses.{is_wide}
@@ -43,6 +45,11 @@ pub record AreCalls (L : Labels) (functions : List Function) (start uses : Uses)
   pub calls : uses.calls.items ≡ start.calls.items ++ calls_from 0 functions
   pub wide : uses.wide.items ≡ start.wide.items ++ map is_wide functions
   pub changing : uses.changing.items ≡ start.changing.items ++ first_changes L 0 functions
+
+-- each function that is reached stands in the order once, and those are declared that are called before they stand
+pub record IsOrderOf (L : Labels) (functions : List Function) (written : List Bool) (order : Order) : Type 0 where
+  pub is : IsOrder written order.functions.items
+  pub declared : order.declared.items ≡ declared_in L functions order.functions.items
 
 -- which functions are reached, what calls what, which name a type of 128 bits, and which may change the struct
 pub record AreUses (L : Labels) (functions : List Function) (uses : Uses) : Type 0 where

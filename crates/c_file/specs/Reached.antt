@@ -21,6 +21,10 @@ pub data IsReached (count : ℕ) (outside : ℕ → Bool) (calls : List Function
   ReachedByCall : (i g : ℕ) (call : FunctionCall) → slice_get calls i ≡ Some call → g ≡ call.callee → g < count
       → IsReached count outside calls call.caller → IsReached count outside calls g
 
+-- a function is written where it is reached; written has a flag for each function
+abbrev pub is_written : List Bool → ℕ → Bool
+is_written written f = slice_index_or written f false
+
 -- a function has its flag set
 abbrev pub IsFlagged : List Bool → ℕ → Type 0
 IsFlagged flags f = slice_index_or flags f false ≡ true

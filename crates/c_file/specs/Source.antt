@@ -1,6 +1,7 @@
 -- The text of a source: what is written of a file, and in which order.
-use Rattle.std.specs.Prelude.{◌≡◌, ℕ, ◌+◌, ◌-◌, ◌||◌, ◌&&◌, not, Bool, true, false, List, [], ◌∷◌, ◌++◌, length, codes}
-use Rattle.std.specs.Prelude.{decimal, slice_index_or, if◌then◌else◌}
+use Rattle.std.specs.Prelude.{ℕ, ◌+◌, ◌-◌, ◌||◌, ◌&&◌, Bool, true, false, List, [], ◌∷◌, ◌++◌, length, codes}
+use Rattle.std.specs.Prelude.{decimal, slice_get, slice_index_or}
+use Rattle.std.specs.Option.{option_map_or}
 use Rattle.flow_base.specs.declared.bounds.Bounds.{Bounds}
 use Rattle.c_subset.specs.Trees.{Function}
 use Rattle.c_subset.specs.Lines.{lines_of}
@@ -10,14 +11,11 @@ use Rattle.c_header.specs.Header.{named_text}
 use Rattle.c_header.specs.Identity.{identity_text, sum_numbers}
 use Rattle.c_header.specs.declared.identity.Identity.{Identity}
 use Rattle.c_file.specs.Changing.{only_reads}
-use Rattle.c_file.specs.Reached.{outside_of}
+use Rattle.c_file.specs.Order.{declared_in}
+use Rattle.c_file.specs.Reached.{is_written}
 use Rattle.c_file.specs.Uses.{is_wide}
 
 -- ---- what is written
-
--- a function is written where it is reached; written has a flag for each function
-abbrev pub is_written : List Bool → ℕ → Bool
-is_written written f = slice_index_or written f false
 
 -- one of the functions that are written, from number f on, names a type of 128 bits
 abbrev pub any_wide : List Bool → ℕ → List Function → Bool
@@ -74,54 +72,58 @@ unfoldable pub fits_text : List ℕ → Identity → Bounds → ℕ → ℕ → 
 fits_text chart identity bounds outputs notes calls =
     sizes_fit chart bounds outputs notes calls
     ++ (sum_numbers (codes ")\n    && (") (codes ")\n    && (") chart (codes " == ") identity.sum
-    ++ codes ")) ? 1 : -1];\n\n")
+    ++ codes ")) ? 1 : -1];\n")
 
 -- the types of 128 bits, where one is named
 abbrev pub wide_text : List ℕ → Bool → List ℕ
 wide_text chart true =
-    named_text (codes "__extension__ typedef __int128 ") chart (codes "int128;\n")
-    ++ named_text (codes "__extension__ typedef unsigned __int128 ") chart (codes "uint128;\n\n")
+    named_text (codes "\n__extension__ typedef __int128 ") chart (codes "int128;\n")
+    ++ named_text (codes "__extension__ typedef unsigned __int128 ") chart (codes "uint128;\n")
 wide_text chart false = []
 
--- the declaration of a function that is written; the header has those that are called from outside. changing has a flag
--- for each function, whether it may change the struct
-unfoldable pub declared_text : Labels → List Bool → List Bool → ℕ → Function → List ℕ
-declared_text L written changing f g =
-    if is_written written f && not (outside_of L f)
-    then prototype_text L f (only_reads changing f) g.result g.parameters else []
+-- the declaration of the function that has a number in the file; changing has a flag for each function, whether it may
+-- change the struct
+unfoldable pub declared_text : Labels → List Bool → List Function → ℕ → List ℕ
+declared_text L changing functions f =
+    option_map_or (λ (g : Function). prototype_text L f (only_reads changing f) g.result g.parameters)
+    (slice_get functions f) []
 
--- those of the functions from number f on
-abbrev pub declarations_text : Labels → List Bool → List Bool → ℕ → List Function → List ℕ
-declarations_text L written changing f [] = []
-declarations_text L written changing f (g ∷ gs) =
-    declared_text L written changing f g ++ declarations_text L written changing (f + 1) gs
+-- those of functions with numbers
+abbrev pub each_declared : Labels → List Bool → List Function → List ℕ → List ℕ
+each_declared L changing functions [] = []
+each_declared L changing functions (f ∷ fs) =
+    declared_text L changing functions f ++ each_declared L changing functions fs
 
--- a function under its comment
-abbrev pub commented_text : Labels → List (List ℕ) → List Bool → ℕ → Function → List ℕ
-commented_text L said changing f g =
-    comment_text said f ++ function_text L f (only_reads changing f) g.result g.parameters (lines_of g.body)
+-- the same under a blank line, where there are any
+abbrev pub declarations_text : Labels → List Bool → List Function → List ℕ → List ℕ
+declarations_text L changing functions [] = []
+declarations_text L changing functions (f ∷ fs) = 10 ∷ each_declared L changing functions (f ∷ fs)
 
--- the same, where the function is written
-unfoldable pub written_text : Labels → List (List ℕ) → List Bool → List Bool → ℕ → Function → List ℕ
-written_text L said written changing f g = if is_written written f then commented_text L said changing f g else []
+-- the function that has a number in the file, under its comment
+unfoldable pub commented_text : Labels → List (List ℕ) → List Bool → List Function → ℕ → List ℕ
+commented_text L said changing functions f =
+    option_map_or (λ (g : Function). comment_text said f
+    ++ function_text L f (only_reads changing f) g.result g.parameters (lines_of g.body)) (slice_get functions f) []
 
--- those from number f on
-abbrev pub functions_text : Labels → List (List ℕ) → List Bool → List Bool → ℕ → List Function → List ℕ
-functions_text L said written changing f [] = []
-functions_text L said written changing f (g ∷ gs) =
-    written_text L said written changing f g ++ functions_text L said written changing (f + 1) gs
+-- functions with numbers
+abbrev pub functions_text : Labels → List (List ℕ) → List Bool → List Function → List ℕ → List ℕ
+functions_text L said changing functions [] = []
+functions_text L said changing functions (f ∷ fs) =
+    commented_text L said changing functions f ++ functions_text L said changing functions fs
 
--- what stands before the functions
+-- what stands before the functions, which are written in that order
 abbrev pub front_text : Labels → Identity → Bounds → ℕ → ℕ → ℕ → List Function → List Bool → List Bool → List ℕ
-front_text L identity bounds outputs notes calls functions written changing =
+    → List ℕ
+front_text L identity bounds outputs notes calls functions written changing order =
     opening_text L.chart identity
     ++ (fits_text L.chart identity bounds outputs notes calls
-    ++ (wide_text L.chart (any_wide written 0 functions) ++ declarations_text L written changing 0 functions))
+    ++ (wide_text L.chart (any_wide written 0 functions)
+    ++ declarations_text L changing functions (declared_in L functions order)))
 
--- the source of this making, of those of the functions that are written, of which those may change the struct, for these
--- bounds, a struct with room for so many outputs and notes, and a header that has this number of calls
+-- the source of this making, of those of the functions that are written, in that order, of which those may change the
+-- struct, for these bounds, a struct with room for so many outputs and notes, and a header that has this number of calls
 unfoldable pub source_text : Labels → List (List ℕ) → Identity → Bounds → ℕ → ℕ → ℕ → List Function → List Bool
-    → List Bool → List ℕ
-source_text L said identity bounds outputs notes calls functions written changing =
-    front_text L identity bounds outputs notes calls functions written changing
-    ++ functions_text L said written changing 0 functions
+    → List Bool → List ℕ → List ℕ
+source_text L said identity bounds outputs notes calls functions written changing order =
+    front_text L identity bounds outputs notes calls functions written changing order
+    ++ functions_text L said changing functions order

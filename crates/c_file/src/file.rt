@@ -9,13 +9,14 @@ ghost use Rattle.c_text.specs.Labels.{labels_of};
 ghost use Rattle.c_runs.specs.Claims.{FitsChart};
 ghost use Rattle.c_file.specs.Comments.{IsTagOf, said_of};
 ghost use Rattle.c_file.specs.Files.{IsC, IsMadeFor, IsPrinted, chart_name};
-ghost use Rattle.c_file.specs.Made.{AreUses, IsMade, functions_of};
+ghost use Rattle.c_file.specs.Made.{AreUses, IsMade, IsOrderOf, functions_of};
 ghost use Rattle.c_file.specs.Source.{source_text};
 ghost use Rattle.c_lines.specs.Wrapped.{IsInLines};
 
 use crate::facts::facts_of;
 use crate::known::{Uses, uses_of};
 use crate::made::Made;
+use crate::order::{Order, order_of};
 use crate::printing::printed_source;
 use crate::said::Said;
 use crate::written::{Written, written_code};
@@ -111,17 +112,20 @@ fn lined_source(
     alloc: Global,
     made: &Made<'_>,
     uses: &Uses,
+    order: &Order,
     calls: u64,
     identity: Identity,
 ) -> Result<String, Memory>
     requires is { IsMade made.now }
     requires uses { AreUses (labels_of made.now.labels) (functions_of made.now) uses.now }
+    requires order { IsOrderOf (labels_of made.now.labels) (functions_of made.now)
+        uses.now.reached.items order.now }
     ensures { IfOk result (λ text. IsInLines (source_text (labels_of made.now.labels)
         (said_of made.now.said) identity made.now.shape.bounds made.now.shape.outputs
         made.now.shape.notes calls (functions_of made.now) uses.now.reached.items
-        uses.now.changing.items) (string_bytes text)) }
+        uses.now.changing.items order.now.functions.items) (string_bytes text)) }
 {
-    let text = printed_source(alloc, made, uses, calls, identity)?;
+    let text = printed_source(alloc, made, uses, order, calls, identity)?;
     Ok(in_lines(alloc, &text)?)
 }
 
@@ -134,7 +138,8 @@ fn printed_files(alloc: Global, made: &Made<'_>, identity: Identity) -> Result<C
     let facts = facts_of(alloc, made, &uses)?;
     let header = lined_header(alloc, made, facts, identity)?;
     let calls = calls_number(facts.calls);
-    let source = lined_source(alloc, made, &uses, calls, identity)?;
+    let order = order_of(alloc, made, &uses)?;
+    let source = lined_source(alloc, made, &uses, &order, calls, identity)?;
     Ok(CFiles { header, source })
 }
 
@@ -143,7 +148,8 @@ fn printed_files(alloc: Global, made: &Made<'_>, identity: Identity) -> Result<C
 /// and the C tests a bound of `identity` unless it is known that no event of that code overruns it.
 /// The code, all functions, the numbers of those that call each other and both texts are in memory
 /// at once; while its lines are broken, a text is there three times. No line of either file has more
-/// than 509 characters, and C reads the same as though no line was broken.
+/// than 509 characters, and C reads the same as though no line was broken. Where no function calls
+/// itself, each should stand behind those that it calls; else it is declared before them.
 ///
 /// `Memory` only where memory was refused.
 ///

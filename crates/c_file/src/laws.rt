@@ -1,5 +1,5 @@
 //! What holds of the two files of a chart.
-ghost use Rattle.std.specs.Prelude.{◌≡◌, ℕ, List, [], ◌∷◌, Bool, Some, true, slice_get};
+ghost use Rattle.std.specs.Prelude.{◌≡◌, ◌≢◌, ℕ, List, [], ◌∷◌, ◌++◌, Bool, Some, true, slice_get};
 ghost use Rattle.std.specs.List.{list_all};
 ghost use Rattle.active_config.specs.Tree.{Tree};
 ghost use Rattle.actions.specs.Names.{Names};
@@ -16,6 +16,7 @@ ghost use Rattle.code_language.specs.Code.{Code};
 ghost use Rattle.code_passes.specs.declared.tag.Tag.{Tag};
 ghost use Rattle.c_file.specs.Facts.{AreFacts};
 ghost use Rattle.c_file.specs.Files.{IsCodeFor, IsWritten, names_in, source_for};
+ghost use Rattle.c_file.specs.Order.{calls_by, is_called, is_early, times};
 ghost use Rattle.c_functions.specs.Files.{shape_of};
 ghost use Rattle.c_functions.specs.Plans.{Tests};
 ghost use Rattle.c_functions.specs.Starts.{HasShape};
@@ -59,20 +60,31 @@ pub fn functions_that_only_read_leave_the_struct()
         → only_reads changing f ≡ true → call file int k f xs s ≡ Returns after x → after ≡ s }
 {}
 
-/// The source for code of a chart is one for the functions of its file, but for the number of calls
-/// with which it compares that of the header: which functions are written, and which of them may
-/// change the struct, is told by the functions.
+/// The source for code of a chart is one for the functions of its file, but for the order in which
+/// they stand and the number of calls with which it compares that of the header: which functions are
+/// written, and which of them may change the struct, is told by the functions.
 pub fn the_source_for_code_is_one()
     ensures { (c : Chart) (T : Tests) (limits : Bounds) (room : ℕ) (k : Code) (origins : List ℕ)
         (tags : List Tag) (identity : Identity) (facts facts' : SourceFacts)
         (functions : List Function) (written written' changing changing' : List Bool)
+        (order : List ℕ)
         → AreFacts (names_in c k) functions written facts
         → AreFacts (names_in c k) functions written' facts'
         → AreChanging (names_in c k) functions changing
         → AreChanging (names_in c k) functions changing'
         → calls_number facts.calls ≡ calls_number facts'.calls
-        → source_for c T limits room k origins tags facts functions written changing identity
-        ≡ source_for c T limits room k origins tags facts' functions written' changing' identity }
+        → source_for c T limits room k origins tags facts functions written changing order identity
+        ≡ source_for c T limits room k origins tags facts' functions written' changing' order
+        identity }
+{}
+
+/// Each call stands behind the function that is called, or behind its declaration: where a function
+/// of the order calls another one that doesn't stand before it, the other one is called before it
+/// stands, so that it is declared before all functions, or in the header.
+pub fn each_call_stands_behind_a_declaration()
+    ensures { (functions : List Function) (before after : List ℕ) (f g : ℕ) → times g before ≡ 0
+        → f ≢ g → is_called g (calls_by functions f) ≡ true
+        → is_early functions (before ++ f ∷ after) g ≡ true }
 {}
 
 /// The words for what a copy of a procedure is for are one line in which no comment of C ends,

@@ -1,20 +1,21 @@
 //! A source, printed.
-ghost use Rattle.std.specs.Prelude.{◌≡◌, ◌<◌, ◌++◌, ◌&&◌, IfOk, OnOk, Some, false, length, map};
-ghost use Rattle.std.specs.Prelude.{slice_get, slice_index_or, string_bytes};
-ghost use Rattle.c_subset.specs.Trees as c;
-ghost use Rattle.c_text.specs.Functions.{prototype_text};
+ghost use Rattle.std.specs.Prelude.{◌≡◌, ◌<◌, ◌++◌, ◌&&◌, IfOk, OnOk, false, length, map};
+ghost use Rattle.std.specs.Prelude.{slice_index_or, string_bytes};
 ghost use Rattle.c_text.specs.Labels.{labels_of};
 ghost use Rattle.c_file.specs.Changing.{only_reads};
 ghost use Rattle.c_file.specs.Comments.{said_of};
-ghost use Rattle.c_file.specs.Made.{AreUses, IsMade, functions_of};
+ghost use Rattle.c_file.specs.Made.{AreUses, IsMade, IsOrderOf, functions_of};
+ghost use Rattle.c_file.specs.Order.{AreBelow};
+ghost use Rattle.c_file.specs.Reached.{is_written};
 ghost use Rattle.c_file.specs.Source as spec;
 ghost use Rattle.c_file.specs.Uses.{is_wide};
 
 use crate::comments::print_comment;
-use crate::known::{Uses, is_outside};
+use crate::known::Uses;
 use crate::made::Made;
+use crate::order::Order;
 use c_header::{Identity, print_identity, print_named, print_sum_numbers};
-use c_text::{function_kind, print_function, print_prototype};
+use c_text::{print_function, print_prototype};
 use code_fields::print_number;
 use flow_base::{Bounds, Memory};
 use std::alloc::{AllocError, Global};
@@ -24,7 +25,7 @@ fn is_written(made: &Made<'_>, uses: &Uses, number: u32) -> bool
     requires is { IsMade made.now }
     requires uses { AreUses (labels_of made.now.labels) (functions_of made.now) uses.now }
     requires within { number < length (functions_of made.now) }
-    ensures { result ≡ spec.is_written uses.now.reached.items number }
+    ensures { result ≡ is_written uses.now.reached.items number }
 {
     uses.reached[number as usize]
 }
@@ -44,7 +45,7 @@ fn is_wide(made: &Made<'_>, uses: &Uses, number: u32) -> bool
     requires is { IsMade made.now }
     requires uses { AreUses (labels_of made.now.labels) (functions_of made.now) uses.now }
     requires within { number < length (functions_of made.now) }
-    ensures { result ≡ (spec.is_written uses.now.reached.items number
+    ensures { result ≡ (is_written uses.now.reached.items number
         && slice_index_or (map is_wide (functions_of made.now)) number false) }
 {
     is_written(made, uses, number) && uses.wide[number as usize]
@@ -160,7 +161,7 @@ fn print_fits(
     print_sizes_fit(out, chart, shape.bounds, shape.outputs, shape.notes, calls)?;
     let and = ")\n    && (";
     print_sum_numbers(alloc, out, and, and, chart, " == ", &identity.sum)?;
-    out.push_str(")) ? 1 : -1];\n\n")?;
+    out.push_str(")) ? 1 : -1];\n")?;
     Ok(())
 }
 
@@ -170,18 +171,24 @@ fn print_wide(out: &mut String, chart: &str, wide: bool) -> Result<(), AllocErro
         (string_bytes out.new ≡ string_bytes out.old ++ spec.wide_text chart.now wide) }
 {
     if wide {
-        print_named(out, "__extension__ typedef __int128 ", chart, "int128;\n")?;
+        print_named(
+            out,
+            "\n__extension__ typedef __int128 ",
+            chart,
+            "int128;\n",
+        )?;
         print_named(
             out,
             "__extension__ typedef unsigned __int128 ",
             chart,
-            "uint128;\n\n",
+            "uint128;\n",
         )?;
     }
     Ok(())
 }
 
 /// Appends the declaration of a function.
+#[tactic(auto, unfolding(crate::specs::Source::declared_text))]
 fn print_declared(
     out: &mut String,
     made: &Made<'_>,
@@ -191,10 +198,8 @@ fn print_declared(
     requires is { IsMade made.now }
     requires uses { AreUses (labels_of made.now.labels) (functions_of made.now) uses.now }
     requires within { number < length (functions_of made.now) }
-    ensures { OnOk result ((g : c.Function) → slice_get (functions_of made.now) number ≡ Some g
-        → string_bytes out.new ≡ string_bytes out.old ++ prototype_text
-        (labels_of made.now.labels) number (only_reads uses.now.changing.items number) g.result
-        g.parameters) }
+    ensures { OnOk result (string_bytes out.new ≡ string_bytes out.old ++ spec.declared_text
+        (labels_of made.now.labels) uses.now.changing.items (functions_of made.now) number) }
 {
     let reads = only_reads(made, uses, number);
     let function = made.function(number);
@@ -210,43 +215,49 @@ fn print_declared(
     Ok(())
 }
 
-/// Appends the declaration of a function that is written and isn't called from outside.
-#[tactic(auto, unfolding(crate::specs::Source::declared_text))]
-fn print_declaration(
+/// Appends the declarations of functions under a blank line, where there are any.
+fn print_declarations(
     out: &mut String,
     made: &Made<'_>,
     uses: &Uses,
-    number: u32,
+    numbers: &[u32],
 ) -> Result<(), AllocError>
     requires is { IsMade made.now }
     requires uses { AreUses (labels_of made.now.labels) (functions_of made.now) uses.now }
-    requires within { number < length (functions_of made.now) }
-    ensures { OnOk result ((g : c.Function) → slice_get (functions_of made.now) number ≡ Some g
-        → string_bytes out.new ≡ string_bytes out.old ++ spec.declared_text
-        (labels_of made.now.labels) uses.now.reached.items uses.now.changing.items number g) }
+    requires within { AreBelow (length (functions_of made.now)) numbers.now }
+    ensures { OnOk result (string_bytes out.new ≡ string_bytes out.old
+        ++ spec.declarations_text (labels_of made.now.labels) uses.now.changing.items
+        (functions_of made.now) numbers.now) }
 {
-    if is_written(made, uses, number) && !is_outside(function_kind(&made.labels, number)) {
-        print_declared(out, made, uses, number)
-    } else {
-        Ok(())
+    if numbers.is_empty() {
+        return Ok(());
     }
+    out.push_str("\n")?;
+    print_each_declared(out, made, uses, numbers)
 }
 
-/// Appends the declarations of the functions that are written and aren't called from outside.
-fn print_declarations(out: &mut String, made: &Made<'_>, uses: &Uses) -> Result<(), AllocError>
+/// Appends the declarations of functions.
+fn print_each_declared(
+    out: &mut String,
+    made: &Made<'_>,
+    uses: &Uses,
+    numbers: &[u32],
+) -> Result<(), AllocError>
     requires is { IsMade made.now }
     requires uses { AreUses (labels_of made.now.labels) (functions_of made.now) uses.now }
+    requires within { AreBelow (length (functions_of made.now)) numbers.now }
     ensures { OnOk result (string_bytes out.new ≡ string_bytes out.old
-        ++ spec.declarations_text (labels_of made.now.labels) uses.now.reached.items
-        uses.now.changing.items 0 (functions_of made.now)) }
+        ++ spec.each_declared (labels_of made.now.labels) uses.now.changing.items
+        (functions_of made.now) numbers.now) }
 {
-    for number in 0..made.count() {
-        print_declaration(out, made, uses, number)?;
+    for number in numbers {
+        print_declared(out, made, uses, *number)?;
     }
     Ok(())
 }
 
 /// Appends a function under its comment.
+#[tactic(auto, unfolding(crate::specs::Source::commented_text))]
 fn print_commented(
     alloc: Global,
     out: &mut String,
@@ -257,9 +268,9 @@ fn print_commented(
     requires is { IsMade made.now }
     requires uses { AreUses (labels_of made.now.labels) (functions_of made.now) uses.now }
     requires within { number < length (functions_of made.now) }
-    ensures { OnOk result ((g : c.Function) → slice_get (functions_of made.now) number ≡ Some g
-        → string_bytes out.new ≡ string_bytes out.old ++ spec.commented_text
-        (labels_of made.now.labels) (said_of made.now.said) uses.now.changing.items number g) }
+    ensures { OnOk result (string_bytes out.new ≡ string_bytes out.old ++ spec.commented_text
+        (labels_of made.now.labels) (said_of made.now.said) uses.now.changing.items
+        (functions_of made.now) number) }
 {
     print_comment(out, &made.said, number)?;
     let reads = only_reads(made, uses, number);
@@ -268,45 +279,23 @@ fn print_commented(
     Ok(())
 }
 
-/// Appends a function where it is written.
-#[tactic(auto, unfolding(crate::specs::Source::written_text))]
-fn print_written(
-    alloc: Global,
-    out: &mut String,
-    made: &Made<'_>,
-    uses: &Uses,
-    number: u32,
-) -> Result<(), Memory>
-    requires is { IsMade made.now }
-    requires uses { AreUses (labels_of made.now.labels) (functions_of made.now) uses.now }
-    requires within { number < length (functions_of made.now) }
-    ensures { OnOk result ((g : c.Function) → slice_get (functions_of made.now) number ≡ Some g
-        → string_bytes out.new ≡ string_bytes out.old ++ spec.written_text
-        (labels_of made.now.labels) (said_of made.now.said) uses.now.reached.items
-        uses.now.changing.items number g) }
-{
-    if is_written(made, uses, number) {
-        print_commented(alloc, out, made, uses, number)
-    } else {
-        Ok(())
-    }
-}
-
-/// Appends the functions that are written.
+/// Appends functions.
 fn print_functions(
     alloc: Global,
     out: &mut String,
     made: &Made<'_>,
     uses: &Uses,
+    numbers: &[u32],
 ) -> Result<(), Memory>
     requires is { IsMade made.now }
     requires uses { AreUses (labels_of made.now.labels) (functions_of made.now) uses.now }
+    requires within { AreBelow (length (functions_of made.now)) numbers.now }
     ensures { OnOk result (string_bytes out.new ≡ string_bytes out.old
         ++ spec.functions_text (labels_of made.now.labels) (said_of made.now.said)
-        uses.now.reached.items uses.now.changing.items 0 (functions_of made.now)) }
+        uses.now.changing.items (functions_of made.now) numbers.now) }
 {
-    for number in 0..made.count() {
-        print_written(alloc, out, made, uses, number)?;
+    for number in numbers {
+        print_commented(alloc, out, made, uses, *number)?;
     }
     Ok(())
 }
@@ -317,20 +306,23 @@ fn print_front(
     out: &mut String,
     made: &Made<'_>,
     uses: &Uses,
+    order: &Order,
     calls: u64,
     identity: Identity,
 ) -> Result<(), AllocError>
     requires is { IsMade made.now }
     requires uses { AreUses (labels_of made.now.labels) (functions_of made.now) uses.now }
+    requires order { IsOrderOf (labels_of made.now.labels) (functions_of made.now)
+        uses.now.reached.items order.now }
     ensures { OnOk result (string_bytes out.new ≡ string_bytes out.old
         ++ spec.front_text (labels_of made.now.labels) identity made.now.shape.bounds
         made.now.shape.outputs made.now.shape.notes calls (functions_of made.now)
-        uses.now.reached.items uses.now.changing.items) }
+        uses.now.reached.items uses.now.changing.items order.now.functions.items) }
 {
     print_opening(alloc, out, made.name, identity)?;
     print_fits(alloc, out, made, calls, identity)?;
     print_wide(out, made.name, any_wide(made, uses))?;
-    print_declarations(out, made, uses)
+    print_declarations(out, made, uses, &order.declared)
 }
 
 /// Appends a source of the functions that are written.
@@ -339,18 +331,22 @@ fn print_source(
     out: &mut String,
     made: &Made<'_>,
     uses: &Uses,
+    order: &Order,
     calls: u64,
     identity: Identity,
 ) -> Result<(), Memory>
     requires is { IsMade made.now }
     requires uses { AreUses (labels_of made.now.labels) (functions_of made.now) uses.now }
+    requires order { IsOrderOf (labels_of made.now.labels) (functions_of made.now)
+        uses.now.reached.items order.now }
     ensures { OnOk result (string_bytes out.new ≡ string_bytes out.old
         ++ spec.source_text (labels_of made.now.labels) (said_of made.now.said) identity
         made.now.shape.bounds made.now.shape.outputs made.now.shape.notes calls
-        (functions_of made.now) uses.now.reached.items uses.now.changing.items) }
+        (functions_of made.now) uses.now.reached.items uses.now.changing.items
+        order.now.functions.items) }
 {
-    print_front(alloc, out, made, uses, calls, identity)?;
-    print_functions(alloc, out, made, uses)?;
+    print_front(alloc, out, made, uses, order, calls, identity)?;
+    print_functions(alloc, out, made, uses, &order.functions)?;
     Ok(())
 }
 
@@ -359,17 +355,20 @@ pub(crate) fn printed_source(
     alloc: Global,
     made: &Made<'_>,
     uses: &Uses,
+    order: &Order,
     calls: u64,
     identity: Identity,
 ) -> Result<String, Memory>
     requires is { IsMade made.now }
     requires uses { AreUses (labels_of made.now.labels) (functions_of made.now) uses.now }
+    requires order { IsOrderOf (labels_of made.now.labels) (functions_of made.now)
+        uses.now.reached.items order.now }
     ensures { IfOk result (λ text. string_bytes text ≡ spec.source_text (labels_of made.now.labels)
         (said_of made.now.said) identity made.now.shape.bounds made.now.shape.outputs
         made.now.shape.notes calls (functions_of made.now) uses.now.reached.items
-        uses.now.changing.items) }
+        uses.now.changing.items order.now.functions.items) }
 {
     let mut text = String::new(alloc);
-    print_source(alloc, &mut text, made, uses, calls, identity)?;
+    print_source(alloc, &mut text, made, uses, order, calls, identity)?;
     Ok(text)
 }

@@ -1,7 +1,8 @@
 -- The functions of the code are those of the file.
-use Rattle.std.proofs.Common.{◌≡◌, ◌+◌, ◌<◌, ◌≤◌, ℕ, zero, suc, List, [], ◌∷◌, ◌++◌, length, map, refl, sym, ap, ◌∙◌}
-use Rattle.std.proofs.Common.{arith, subst, slice_get, Some, below_more}
+use Rattle.std.proofs.Common.{◌≡◌, ◌+◌, ◌<◌, ◌≤◌, ℕ, zero, suc, Bool, false, List, [], ◌∷◌, ◌++◌, length, map, refl, sym, ap, ◌∙◌}
+use Rattle.std.proofs.Common.{arith, subst, slice_get, get_or, Some, below_more}
 use Rattle.std.proofs.lemmas.List.{length-append}
+use Rattle.std.proofs.lemmas.Option.{slice_get_within, slice_get-get_or}
 use Rattle.std.specs.List.{range_with_len}
 use Rattle.flow_base.specs.declared.bounds.Bounds.{Bounds}
 use Rattle.code_language.specs.Code.{Code}
@@ -14,15 +15,17 @@ use Rattle.c_trees.proofs.ReadLemmas.{read-whole}
 use Rattle.c_subset.specs.declared.trees.Function as declared
 use Rattle.c_functions.specs.Statements as plan
 use Rattle.c_functions.specs.Writer.{plans_of}
-use Rattle.c_functions.specs.Plans.{Shape, Tests}
+use Rattle.c_functions.specs.Plans.{Shape, Tests, react_function}
 use Rattle.c_functions.specs.Files.{shape_of, functions_c, procedure_c}
 use Rattle.c_functions.specs.Starts.{file_of}
 use Rattle.c_functions.proofs.FilesFunctions.{range-length}
 use Rattle.c_loops.specs.Loops.{looped, loops_from}
-use Rattle.c_bare.specs.Bare.{AreFunctions}
+use Rattle.c_bare.specs.Needs.{is_bare}
+use Rattle.c_bare.specs.Bare.{AreFunctions, AreNeedless, bared, bared_from, with_bare}
 use Rattle.c_writer.specs.Functions.{IsAt, IsShapeOf}
 use Rattle.c_passes.specs.Passed.{function_of, functions_in, written_file, looped_file, ArePassed, AsItIs, Looped}
-use Rattle.c_passes.proofs.HeadLemmas.{loops_count}
+use Rattle.c_passes.specs.Passed.{Bared}
+use Rattle.c_passes.proofs.HeadLemmas.{loops_count, bare_count}
 
 -- ---- how many there are
 
@@ -214,14 +217,96 @@ passed_count K k is fs made are same =
     ∙ sym (ap length (functions_are fs made.functions are) ∙ same
     ∙ file_count k K.tests K.bounds K.outputs (plans_of k))
 
+-- ---- bare functions
+
+-- the functions that were taken are made, each with its number as in the file where those with a flag are bare
+pub record AreBareSoFar (flags : List Bool) (taken fs : List declared.Function) : Type 0 where
+  pub count : length fs ≡ length taken
+  pub each : (i : ℕ) (t f : declared.Function) → slice_get taken i ≡ Some t → slice_get fs i ≡ Some f
+      → (g : Function) → IsFunction t g → IsFunction f (bared flags i g)
+
+pub no_bare_so_far : (flags : List Bool) (fs : List declared.Function) → fs ≡ [] → AreBareSoFar flags [] fs
+no_bare_so_far flags fs none = record {
+  count = ap length none;
+  each = λ i t f there. absurd (no_item i t there);
+} where
+  no_item : (i : ℕ) (t : declared.Function) → slice_get [] i ≡ Some t → ⊥
+  no_item zero t e = cc
+  no_item (suc i) t e = cc
+
+pub one_more_bare : (flags : List Bool) (taken fs new : List declared.Function) (n : ℕ) (t f : declared.Function)
+    → AreBareSoFar flags taken fs → n ≡ length fs → ((g : Function) → IsFunction t g → IsFunction f (bared flags n g))
+    → new ≡ fs ++ f ∷ [] → AreBareSoFar flags (taken ++ t ∷ []) new
+one_more_bare flags taken fs new n t f so_far is makes new_is = record {
+  count =
+      ap length new_is ∙ length-append fs (f ∷ []) ∙ ap (λ (m : ℕ). m + 1) so_far.count
+      ∙ sym (length-append taken (t ∷ []));
+  each =
+      λ i u h there at. below_more (λ (i : ℕ). (u h : declared.Function) → slice_get (taken ++ t ∷ []) i ≡ Some u
+      → slice_get new i ≡ Some h → (g : Function) → IsFunction u g → IsFunction h (bared flags i g)) (length taken)
+      (λ i lt u h there at. so_far.each i u h (sym (before_end taken t i lt) ∙ there)
+      (sym (before_end fs f i (omega (arith, lt, so_far.count)))
+      ∙ ap (λ (xs : List declared.Function). slice_get xs i) (sym new_is) ∙ at))
+      (λ u h there at g is_u. subst (λ (x : declared.Function). IsFunction x (bared flags (length taken) g))
+      (at_end fs f h (length taken) (sym so_far.count)
+      (ap (λ (xs : List declared.Function). slice_get xs (length taken)) (sym new_is) ∙ at))
+      (subst (λ (m : ℕ). IsFunction f (bared flags m g)) (is ∙ so_far.count)
+      (makes g (subst (λ (x : declared.Function). IsFunction x g)
+      (sym (at_end taken t u (length taken) refl there)) is_u)))) i
+      (omega (arith, slice_get_within (taken ++ t ∷ []) i u there, length-append taken (t ∷ []))) u h there at;
+}
+
+-- a function with a number in the file where those with a flag are bare
+record IsBaredAt (flags : List Bool) (gs : List Function) (i n : ℕ) (g : Function) : Type 0 where
+  function : Function
+  there : slice_get gs i ≡ Some function
+  is : bared flags n function ≡ g
+
+bared_at : (flags : List Bool) (gs : List Function) (p i n : ℕ) (g : Function) → n ≡ p + i
+    → slice_get (bared_from flags p gs) i ≡ Some g → IsBaredAt flags gs i n g
+bared_at flags [] p zero n g e there = absurd cc
+bared_at flags [] p (suc i) n g e there = absurd cc
+bared_at flags (x ∷ gs) p zero n g e there = record {
+  function = x;
+  there = refl;
+  is = ap (λ (m : ℕ). bared flags m x) (first e) ∙ some_is there;
+} where
+  first : n ≡ p + 0 → n ≡ p
+  first e = omega (arith, e)
+
+  some_is : Some (bared flags p x) ≡ Some g → bared flags p x ≡ g
+  some_is e = cc
+bared_at flags (x ∷ gs) p (suc i) n g e there =
+    let rest = bared_at flags gs (suc p) i n g (omega (arith, e)) there in
+    record { function = rest.function; there = rest.there; is = rest.is }
+
+-- when all were taken, they are those of that file
+pub all_bare : (flags : List Bool) (taken fs : List declared.Function) → AreBareSoFar flags taken fs
+    → (gs : List Function) → AreFunctions taken gs → AreFunctions fs (bared_from flags 0 gs)
+all_bare flags taken fs so_far gs are = record {
+  count = so_far.count ∙ are.count ∙ sym (bare_count flags gs 0);
+  each =
+      λ i f g there at. let has : IsBaredAt flags gs i i g = bared_at flags gs 0 i i g (omega arith) at in
+      let lt : i < length fs = slice_get_within fs i f there in
+      let t : declared.Function = get_or taken i f in
+      let taken_at : slice_get taken i ≡ Some t =
+      slice_get-get_or taken i f (omega (arith, lt, so_far.count)) in
+      subst (IsFunction f) has.is
+      (so_far.each i t f taken_at there has.function (are.each i t has.function taken_at has.there));
+}
+
 -- ---- all of them
 
--- when the last one is made they are those of a file that passes make
-pub looped_all : (K : Shape) (k : Code) (fs : List declared.Function) (n : ℕ)
-    → n ≡ length (looped_file K k).functions → AreSoFar fs (looped_file K k).functions n
-    → ArePassed K (written_file K k) fs
-looped_all K k fs n all so_far = record {
-  made = looped_file K k;
-  passed = Looped (length k.procedures.procs) (written_file K k) AsItIs;
-  are = all_so_far fs (looped_file K k).functions n all so_far;
+-- bare functions of those of a file that passes make are passed on
+pub bared_all : (K : Shape) (k : Code) (flags : List Bool) (fs made : List declared.Function)
+    → AreFunctions fs (looped_file K k).functions
+    → ((gs : List Function) → AreFunctions fs gs → AreNeedless flags gs) → is_bare flags (react_function K) ≡ false
+    → ((gs : List Function) → AreFunctions fs gs → AreFunctions made (bared_from flags 0 gs))
+    → ArePassed K (written_file K k) made
+bared_all K k flags fs made looped needless reaction bares = record {
+  made = with_bare flags (looped_file K k);
+  passed =
+      Bared flags (looped_file K k) (Looped (length k.procedures.procs) (written_file K k) AsItIs)
+      (needless (looped_file K k).functions looped) reaction;
+  are = bares (looped_file K k).functions looped;
 }

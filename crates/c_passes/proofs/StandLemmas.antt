@@ -26,7 +26,7 @@ stands K file _ AsItIs = record {
   rows = refl;
   count = refl;
   heads = own_head K file;
-  runs = λ int s given events moments run. run;
+  runs = λ int s given events moments values all run. run;
   refuses = λ int refuses. refuses;
 }
 stands K file _ (Looped n made passed) =
@@ -38,8 +38,8 @@ stands K file _ (Looped n made passed) =
           λ f g there. let has = loop_head made.functions 0 n f g there in
           kept_head K file f g has.function has.result has.parameters (h.heads f has.function has.there);
       runs =
-          λ int s given events moments run. loops.runs-on n K made int s given events moments
-          (h.runs int s given events moments run);
+          λ int s given events moments values all run. loops.runs-on n K made int s given events moments
+          (h.runs int s given events moments values all run);
       refuses = λ int refuses. loops.refuses-on n K made int (h.refuses int refuses);
     }
 stands K file _ (Bared flags made passed needless reaction) =
@@ -53,8 +53,9 @@ stands K file _ (Bared flags made passed needless reaction) =
           (has.parameters ∙ ap (λ (n : ℕ). handed flags n has.function.parameters) (same has.number f has.is_number))
           (h.heads f has.function has.there);
       runs =
-          λ int s given events moments run. bare.runs-as flags made needless K reaction int s given events moments
-          (h.runs int s given events moments run);
+          λ int s given events moments values all run.
+          bare.runs-as flags made needless K reaction int s given events moments
+          (h.runs int s given events moments values all run);
       refuses = λ int refuses. bare.refuses-as flags made needless K reaction int (h.refuses int refuses);
     }
 

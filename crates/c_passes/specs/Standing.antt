@@ -2,7 +2,7 @@
 use Rattle.std.specs.Prelude.{◌≡◌, ◌⊎◌, ℕ, List, [], ◌∷◌, Option, Some, length, slice_get}
 use Rattle.flow_base.specs.declared.bounds.Bounds.{Bounds}
 use Rattle.actions.specs.declared.expr.Value.{Value}
-use Rattle.actions.specs.Runs.{EventWithInputs, Moment}
+use Rattle.actions.specs.Runs.{EventWithInputs, Moment, AreInputValues}
 use Rattle.code_language.specs.Code.{Code}
 use Rattle.c_subset.specs.declared.trees.CType.TheVariants.{Truth}
 use Rattle.c_subset.specs.declared.trees.Width.{Width}
@@ -10,7 +10,7 @@ use Rattle.c_subset.specs.Trees.{Function, File}
 use Rattle.c_subset.specs.Meaning.{Store}
 use Rattle.c_functions.specs.Files.{shape_of}
 use Rattle.c_functions.specs.Plans.{Shape, Tests, word, init_function, start_function, react_function}
-use Rattle.c_functions.specs.Starts.{RunsOn, Refuses, file_of}
+use Rattle.c_functions.specs.Starts.{AllGiven, RunsOn, Refuses, file_of}
 use Rattle.c_functions.specs.Writer.{plans_of}
 use Rattle.c_passes.specs.Passed.{IsPassed}
 
@@ -23,14 +23,15 @@ pub record HasHead (K : Shape) (file : File) (f : ℕ) (g : Function) : Type 0 w
   pub reaction : f ≡ react_function K → g.parameters ≡ function.parameters
 
 -- A file stands for another one: it has the same struct and as many functions, with these results and parameters; it
--- runs as the other one does, and refuses what that refuses.
+-- runs as the other one does over events that can be given and values of inputs, and refuses what that refuses.
 pub record StandsFor (K : Shape) (file made : File) : Type 0 where
   pub fields : made.fields ≡ file.fields
   pub rows : made.rows ≡ file.rows
   pub count : length made.functions ≡ length file.functions
   pub heads : (f : ℕ) (g : Function) → slice_get made.functions f ≡ Some g → HasHead K file f g
   pub runs : (int : Width) (s : Store) (given : List (Option Value)) (events : List EventWithInputs)
-      (moments : List Moment) → RunsOn K file int s given events moments → RunsOn K made int s given events moments
+      (moments : List Moment) → AreInputValues K.names 0 given → AllGiven K.names events
+      → RunsOn K file int s given events moments → RunsOn K made int s given events moments
   pub refuses : (int : Width) → Refuses K file int → Refuses K made int
 
 -- the functions that are called from outside have these results and parameters

@@ -6,7 +6,8 @@ use Rattle.std.proofs.lemmas.List.{length_push}
 use Rattle.c_subset.specs.declared.trees.CType.{CType}
 use Rattle.c_subset.specs.Lines.{Line}
 use Rattle.c_text.specs.declared.locals.LocalName.{LocalName}
-use Rattle.c_text.specs.Functions.{same_local, local_set, with_local, with_locals, parameters_from}
+use Rattle.c_text.specs.Reading.{same_local}
+use Rattle.c_text.specs.Functions.{local_set, with_local, with_locals, parameters_from}
 
 -- as many as parameters
 pub parameters-length : (k : ℕ) (ts : List CType) → length (parameters_from k ts) ≡ length ts
@@ -25,7 +26,12 @@ local-kept seen None = omega arith
 local-kept seen (Some x) = added seen x (list_any (same_local x) seen)
 
 -- nor do lines
-pub locals-kept : (seen : List LocalName) (xs : List Line) → length seen ≤ length (with_locals seen xs)
-locals-kept seen [] = omega arith
-locals-kept seen (x ∷ xs) =
-    omega (arith, local-kept seen (local_set x), locals-kept (with_local seen (local_set x)) xs)
+pub locals-kept : (lines : List Line) (seen : List LocalName) (xs : List Line)
+    → length seen ≤ length (with_locals lines seen xs)
+locals-kept lines seen [] = omega arith
+locals-kept lines seen (x ∷ xs) =
+    omega (
+      arith,
+      local-kept seen (local_set lines x),
+      locals-kept lines (with_local seen (local_set lines x)) xs,
+    )

@@ -14,7 +14,8 @@ use Rattle.c_text.specs.declared.kinds.Kind.TheVariants.{Procedure, Home, Noted,
 use Rattle.c_text.specs.declared.locals.LocalName.{LocalName}
 use Rattle.c_text.specs.Labels.{Labels, function_kind, function_label, takes_struct, local_label}
 use Rattle.c_text.specs.Types.{type_text}
-use Rattle.c_text.specs.Statements.{has_cases, comma, lines_text}
+use Rattle.c_text.specs.Reading.{same_local, has_cases, line_reads, read_local}
+use Rattle.c_text.specs.Statements.{comma, lines_text}
 
 -- ---- heads
 
@@ -66,41 +67,37 @@ prototype_text L f only_reads result ts = head_text L f only_reads result ts ++ 
 
 -- ---- the locals that are declared
 
--- the same local
-abbrev pub same_local : LocalName → LocalName → Bool
-same_local x y = (x.number == y.number) && same_type x.of y.of
-
--- the local that a line sets
-abbrev pub local_set : Line → Option LocalName
-local_set (Set t k e) = Some (record { of = t; number = k })
-local_set (Store f e) = None
-local_set (StoreAt a i e) = None
-local_set (Call t k f args) = Some (record { of = t; number = k })
-local_set (Select t k e cases args) = if has_cases cases then Some (record { of = t; number = k }) else None
-local_set (If e) = None
-local_set Else = None
-local_set (While e) = None
-local_set Close = None
-local_set (Return e) = None
+-- the local that a line sets, where one of the lines reads it
+abbrev pub local_set : List Line → Line → Option LocalName
+local_set lines (Set t k e) = read_local lines t k
+local_set lines (Store f e) = None
+local_set lines (StoreAt a i e) = None
+local_set lines (Call t k f args) = read_local lines t k
+local_set lines (Select t k e cases args) = if has_cases cases then read_local lines t k else None
+local_set lines (If e) = None
+local_set lines Else = None
+local_set lines (While e) = None
+local_set lines Close = None
+local_set lines (Return e) = None
 
 -- one more local, where it isn't there
 abbrev pub with_local : List LocalName → Option LocalName → List LocalName
 with_local seen None = seen
 with_local seen (Some x) = if list_any (same_local x) seen then seen else seen ++ x ∷ []
 
--- the locals, then those that lines set, in the order in which they are set first
-abbrev pub with_locals : List LocalName → List Line → List LocalName
-with_locals seen [] = seen
-with_locals seen (x ∷ xs) = with_locals (with_local seen (local_set x)) xs
+-- the locals, then those that lines set and that one of all lines reads, in the order in which they are set first
+abbrev pub with_locals : List Line → List LocalName → List Line → List LocalName
+with_locals lines seen [] = seen
+with_locals lines seen (x ∷ xs) = with_locals lines (with_local seen (local_set lines x)) xs
 
 -- the parameters from number k on
 abbrev pub parameters_from : ℕ → List CType → List LocalName
 parameters_from k [] = []
 parameters_from k (t ∷ ts) = record { of = t; number = k } ∷ parameters_from (k + 1) ts
 
--- the locals that the lines of a function set, without its parameters
+-- the locals that the lines of a function set and read, without its parameters
 unfoldable pub locals_set : List CType → List Line → List LocalName
-locals_set ts xs = drop (length ts) (with_locals (parameters_from 0 ts) xs)
+locals_set ts lines = drop (length ts) (with_locals lines (parameters_from 0 ts) lines)
 
 -- T x;
 unfoldable pub declaration_text : Labels → Kind → LocalName → List ℕ
@@ -112,36 +109,6 @@ declarations_text L kind [] = []
 declarations_text L kind (x ∷ xs) = declaration_text L kind x ++ declarations_text L kind xs
 
 -- ---- what is used
-
--- an expression reads a local
-abbrev pub reads : LocalName → CExpr → Bool
-reads x (Const t z) = false
-reads x (Field f) = false
-reads x (Element a e) = reads x e
-reads x (Local t k) = same_local x (record { of = t; number = k })
-reads x (Cast t e) = reads x e
-reads x (Minus e) = reads x e
-reads x (Bang e) = reads x e
-reads x (Calc op a b) = reads x a || reads x b
-reads x (Divide op a b) = reads x a || reads x b
-reads x (Bits op a b) = reads x a || reads x b
-reads x (Compare op a b) = reads x a || reads x b
-reads x (Both a b) = reads x a || reads x b
-reads x (Either a b) = reads x a || reads x b
-reads x (Choose t e a b) = reads x e || (reads x a || reads x b)
-
--- a line reads it; a `switch` without cases isn't written
-abbrev pub line_reads : LocalName → Line → Bool
-line_reads x (Set t k e) = reads x e
-line_reads x (Store f e) = reads x e
-line_reads x (StoreAt a i e) = reads x i || reads x e
-line_reads x (Call t k f args) = list_any (reads x) args
-line_reads x (Select t k e cases args) = has_cases cases && (reads x e || list_any (reads x) args)
-line_reads x (If e) = reads x e
-line_reads x Else = false
-line_reads x (While e) = reads x e
-line_reads x Close = false
-line_reads x (Return e) = reads x e
 
 -- an expression reads the struct
 abbrev pub reads_struct : CExpr → Bool
@@ -202,4 +169,4 @@ unfoldable pub function_text : Labels → ℕ → Bool → CType → List CType 
 function_text L f only_reads result ts lines = let kind = function_kind L f in
     head_text L f only_reads result ts ++ (10 ∷ 123 ∷ 10 ∷ (declarations_text L kind (locals_set ts lines)
     ++ (unread_text kind lines (parameters_from 0 ts)
-    ++ (unused_text L kind lines ++ (lines_text L kind result 1 lines ++ (codes "}" ++ 10 ∷ []))))))
+    ++ (unused_text L kind lines ++ (lines_text L kind lines result 1 lines ++ (codes "}" ++ 10 ∷ []))))))

@@ -1,6 +1,6 @@
 -- How statements are written, a line for each.
 use Rattle.std.specs.Prelude.{ℕ, zero, suc, ◌+◌, ◌-◌, nat_lt, ◌||◌, Bool, true, false, List, [], ◌∷◌, ◌++◌, codes}
-use Rattle.std.specs.Prelude.{decimal, if◌then◌else◌}
+use Rattle.std.specs.Prelude.{decimal, if◌then◌else◌, Option, Some, None}
 use Rattle.c_subset.specs.Trees.{CExpr}
 use Rattle.c_subset.specs.declared.trees.Case.{Case}
 use Rattle.c_subset.specs.declared.trees.CType.{CType}
@@ -9,9 +9,11 @@ use Rattle.c_subset.specs.declared.trees.CType.TheVariants.{Signed, Unsigned}
 use Rattle.c_subset.specs.Lines.{Line, Set, Store, StoreAt, Call, Select, If, Else, While, Close, Return}
 use Rattle.c_text.specs.declared.kinds.Kind.{Kind}
 use Rattle.c_text.specs.declared.kinds.Kind.TheVariants.{Procedure, Home, Noted, Floor, Outside}
+use Rattle.c_text.specs.declared.locals.LocalName.{LocalName}
 use Rattle.c_text.specs.Labels.{Labels, type_of_field, field_label, row_label, function_label, function_kind}
 use Rattle.c_text.specs.Labels.{takes_struct, local_label}
 use Rattle.c_text.specs.Expressions.{bare, brought, is_truth}
+use Rattle.c_text.specs.Reading.{has_cases, read_local}
 
 -- four blanks for each depth
 abbrev pub indent : ℕ → List ℕ
@@ -25,11 +27,6 @@ comma kind k = if takes_struct kind || nat_lt 0 k then codes ", " else []
 -- the struct as an argument
 abbrev pub struct_argument : Kind → List ℕ
 struct_argument kind = if takes_struct kind then codes "m" else []
-
--- there are cases; a `switch` without any does nothing, and isn't written
-abbrev pub has_cases : List Case → Bool
-has_cases [] = false
-has_cases (c ∷ cases) = true
 
 -- the depth after a line
 abbrev pub depth_after : ℕ → Line → ℕ
@@ -49,6 +46,11 @@ unfoldable pub default_text : ℕ → List ℕ
 default_text d =
     (indent d ++ codes "default: /* Nothing is done for another number. */\n")
     ++ ((indent (d + 1) ++ codes "break;\n") ++ (indent d ++ codes "}\n"))
+
+-- what stands before a call: x = where x is read, or (void) since no line reads what is returned
+abbrev pub given_text : Kind → Option LocalName → List ℕ
+given_text kind None = codes "(void)"
+given_text kind (Some x) = local_label kind x.of x.number ++ codes " = "
 
 module _ (L : Labels) (kind : Kind) where
   -- what is stored in an object of that type; anything is brought to `bool` without a cast
@@ -72,52 +74,58 @@ module _ (L : Labels) (kind : Kind) where
   arguments_text callee k [] = []
   arguments_text callee k (e ∷ es) = argument_text callee k e ++ arguments_text callee (k + 1) es
 
+  -- x = e; where x is read; a value that no line reads isn't written, and has no effect
+  unfoldable pub set_text : ℕ → Option LocalName → CExpr → List ℕ
+  set_text d None e = []
+  set_text d (Some x) e =
+      indent d ++ (local_label kind x.of x.number ++ (codes " = " ++ (stored x.of e ++ (codes ";" ++ 10 ∷ []))))
+
   -- x = f(m, e, ..);
-  unfoldable pub call_text : ℕ → CType → ℕ → ℕ → List CExpr → List ℕ
-  call_text d t k f args =
-      indent d ++ (local_label kind t k ++ (codes " = " ++ (function_label L f ++ (codes "("
+  unfoldable pub call_text : ℕ → Option LocalName → ℕ → List CExpr → List ℕ
+  call_text d x f args =
+      indent d ++ (given_text kind x ++ (function_label L f ++ (codes "("
       ++ (struct_argument (function_kind L f) ++ (arguments_text (function_kind L f) 0 args
-      ++ (codes ");" ++ 10 ∷ [])))))))
+      ++ (codes ");" ++ 10 ∷ []))))))
 
   -- case C: x = f(m, e, ..); break;
-  unfoldable pub case_text : ℕ → CType → ℕ → List CExpr → Case → List ℕ
-  case_text d t k args c =
-      indent d ++ (codes "case " ++ (decimal c.label ++ (codes "u:" ++ 10 ∷ (call_text (d + 1) t k c.function args
+  unfoldable pub case_text : ℕ → Option LocalName → List CExpr → Case → List ℕ
+  case_text d x args c =
+      indent d ++ (codes "case " ++ (decimal c.label ++ (codes "u:" ++ 10 ∷ (call_text (d + 1) x c.function args
       ++ (indent (d + 1) ++ (codes "break;" ++ 10 ∷ []))))))
 
   -- cases, one after the other
-  abbrev pub cases_text : ℕ → CType → ℕ → List CExpr → List Case → List ℕ
-  cases_text d t k args [] = []
-  cases_text d t k args (c ∷ cases) = case_text d t k args c ++ cases_text d t k args cases
+  abbrev pub cases_text : ℕ → Option LocalName → List CExpr → List Case → List ℕ
+  cases_text d x args [] = []
+  cases_text d x args (c ∷ cases) = case_text d x args c ++ cases_text d x args cases
 
   -- if (e) { and the like
   unfoldable pub opening_text : ℕ → List ℕ → CExpr → List ℕ
   opening_text d word e = indent d ++ (word ++ (bare L kind e ++ (codes ") {" ++ 10 ∷ [])))
 
   -- switch (e) { case C: .. default: break; }
-  unfoldable pub switch_text : ℕ → CType → ℕ → CExpr → List Case → List CExpr → List ℕ
-  switch_text d t k e cases args =
+  unfoldable pub switch_text : ℕ → Option LocalName → CExpr → List Case → List CExpr → List ℕ
+  switch_text d x e cases args =
       if has_cases cases
-      then opening_text d (codes "switch (") e ++ (cases_text d t k args cases ++ default_text d)
+      then opening_text d (codes "switch (") e ++ (cases_text d x args cases ++ default_text d)
       else []
 
-  -- A line at a depth, in a function with that result
+module _ (L : Labels) (kind : Kind) (lines : List Line) where
+  -- A line of these lines at a depth, in a function with that result
   unfoldable pub line_text : CType → ℕ → Line → List ℕ
-  line_text result d (Set t k e) =
-      indent d ++ (local_label kind t k ++ (codes " = " ++ (stored t e ++ (codes ";" ++ 10 ∷ []))))
+  line_text result d (Set t k e) = set_text L kind d (read_local lines t k) e
   line_text result d (Store f e) =
-      indent d ++ (codes "m->" ++ (field_label L f ++ (codes " = " ++ (stored (type_of_field L f) e
+      indent d ++ (codes "m->" ++ (field_label L f ++ (codes " = " ++ (stored L kind (type_of_field L f) e
       ++ (codes ";" ++ 10 ∷ [])))))
   line_text result d (StoreAt a i e) =
       indent d ++ (codes "m->" ++ (row_label a ++ (codes "[" ++ (bare L kind i ++ (codes "] = "
-      ++ (stored (Unsigned W32) e ++ (codes ";" ++ 10 ∷ [])))))))
-  line_text result d (Call t k f args) = call_text d t k f args
-  line_text result d (Select t k e cases args) = switch_text d t k e cases args
-  line_text result d (If e) = opening_text d (codes "if (") e
+      ++ (stored L kind (Unsigned W32) e ++ (codes ";" ++ 10 ∷ [])))))))
+  line_text result d (Call t k f args) = call_text L kind d (read_local lines t k) f args
+  line_text result d (Select t k e cases args) = switch_text L kind d (read_local lines t k) e cases args
+  line_text result d (If e) = opening_text L kind d (codes "if (") e
   line_text result d Else = indent (d - 1) ++ (codes "} else {" ++ 10 ∷ [])
-  line_text result d (While e) = opening_text d (codes "while (") e
+  line_text result d (While e) = opening_text L kind d (codes "while (") e
   line_text result d Close = indent (d - 1) ++ (codes "}" ++ 10 ∷ [])
-  line_text result d (Return e) = indent d ++ (codes "return " ++ (stored result e ++ (codes ";" ++ 10 ∷ [])))
+  line_text result d (Return e) = indent d ++ (codes "return " ++ (stored L kind result e ++ (codes ";" ++ 10 ∷ [])))
 
   -- lines from a depth on
   abbrev pub lines_text : CType → ℕ → List Line → List ℕ

@@ -5,13 +5,14 @@ ghost use Rattle.flow_base.specs.Lists.{items_of};
 ghost use Rattle.c_subset.specs.Lines.{line_of, lines_in};
 ghost use Rattle.c_text.specs.Functions as spec;
 ghost use Rattle.c_text.specs.Labels.{labels_of, local_label};
+ghost use Rattle.c_text.specs.Reading.{line_reads, same_local};
 ghost use Rattle.c_text.specs.Types.{type_text};
 
 use crate::kinds::{Kind, function_kind, print_function_label, takes_struct};
 use crate::labels::Labels;
 use crate::locals::{LocalName, print_local_label};
-use crate::reading::{any_line_reads, any_line_uses_struct, has_cases, is_same_local};
-use crate::statements::{comma, local_of, print_lines};
+use crate::reading::{any_line_reads, any_line_uses_struct, has_cases, is_same_local, read_local};
+use crate::statements::{comma, print_lines};
 use crate::types::print_type;
 use c_names::print_chart_name;
 use c_subset::{CType, Function, Line};
@@ -156,15 +157,16 @@ fn print_typed(
     print_local_label(out, kind, local)
 }
 
-/// The local that a line sets, if it sets one.
-fn local_set(line: &Line) -> Option<LocalName>
-    ensures { result ≡ spec.local_set (line_of line.now) }
+/// The local that a line sets, if it sets one, and if one of the lines reads it.
+fn local_set(lines: &[Line], line: &Line) -> Option<LocalName>
+    ensures { result ≡ spec.local_set (lines_in lines.now) (line_of line.now) }
 {
     match line {
-        Line::Set(of, number, _) | Line::Call(of, number, _, _) => Some(local_of(*of, *number)),
+        Line::Set(of, number, _) => read_local(lines, *of, *number),
+        Line::Call(of, number, _, _) => read_local(lines, *of, *number),
         Line::Select(of, number, _, cases, _) => {
             if has_cases(cases.items()) {
-                Some(local_of(*of, *number))
+                read_local(lines, *of, *number)
             } else {
                 None
             }
@@ -181,7 +183,7 @@ fn local_set(line: &Line) -> Option<LocalName>
 
 /// Whether the local is one of these.
 fn is_among(seen: &[LocalName], local: LocalName) -> bool
-    ensures { result ≡ list_any (spec.same_local local) seen.now }
+    ensures { result ≡ list_any (same_local local) seen.now }
 {
     for other in seen {
         if is_same_local(local, *other) {
@@ -191,12 +193,13 @@ fn is_among(seen: &[LocalName], local: LocalName) -> bool
     false
 }
 
-/// Adds the locals that lines set to those that are there.
+/// Adds the locals that lines set and read to those that are there.
 fn add_locals(seen: &mut Vec<LocalName>, lines: &[Line]) -> Result<(), AllocError>
-    ensures { OnOk result (seen.new.items ≡ spec.with_locals seen.old.items (lines_in lines.now)) }
+    ensures { OnOk result (seen.new.items
+        ≡ spec.with_locals (lines_in lines.now) seen.old.items (lines_in lines.now)) }
 {
     for line in lines {
-        add_local(seen, local_set(line))?;
+        add_local(seen, local_set(lines, line))?;
     }
     Ok(())
 }
@@ -334,7 +337,7 @@ fn print_opening_lines(
     print_unused(out, labels, kind, lines)
 }
 
-/// Appends the declarations of the locals that lines set, without parameters of these types.
+/// Appends the declarations of the locals that lines set and read, without parameters of these types.
 #[tactic(auto, unfolding(crate::specs::Functions::locals_set))]
 fn print_locals_set(
     alloc: Global,

@@ -3,16 +3,16 @@ ghost use Rattle.std.specs.Prelude.{◌≡◌};
 ghost use Rattle.std.specs.List.{list_any};
 ghost use Rattle.c_subset.specs.declared.trees.Case.{Case};
 ghost use Rattle.c_subset.specs.Lines.{expr_of, exprs_of, line_of, lines_in};
-ghost use Rattle.c_text.specs.Functions as spec;
+ghost use Rattle.c_text.specs.Functions as using;
 ghost use Rattle.c_text.specs.Labels.{labels_of};
-ghost use Rattle.c_text.specs.Statements.{has_cases};
+ghost use Rattle.c_text.specs.Reading as spec;
 
 use crate::kinds::{function_kind, takes_struct};
 use crate::labels::Labels;
 use crate::locals::LocalName;
 use crate::statements::local_of;
 use crate::types::is_same;
-use c_subset::{CExpr, Case, Line};
+use c_subset::{CExpr, CType, Case, Line};
 
 /// Whether both are the same local.
 pub fn is_same_local(left: LocalName, right: LocalName) -> bool
@@ -23,7 +23,7 @@ pub fn is_same_local(left: LocalName, right: LocalName) -> bool
 
 /// Whether there are cases. A `switch` without any does nothing, and isn't written.
 pub fn has_cases(cases: &[Case]) -> bool
-    ensures { result ≡ has_cases cases.now }
+    ensures { result ≡ spec.has_cases cases.now }
 {
     !cases.is_empty()
 }
@@ -94,9 +94,21 @@ pub fn any_line_reads(local: LocalName, lines: &[Line]) -> bool
     false
 }
 
+/// The local of a type and a number, where one of these lines reads it.
+pub fn read_local(lines: &[Line], of: CType, number: u32) -> Option<LocalName>
+    ensures { result ≡ spec.read_local (lines_in lines.now) of number }
+{
+    let local = local_of(of, number);
+    if any_line_reads(local, lines) {
+        Some(local)
+    } else {
+        None
+    }
+}
+
 /// Whether an expression reads the struct.
 fn reads_struct(expr: &CExpr) -> bool
-    ensures { result ≡ spec.reads_struct (expr_of expr.now) }
+    ensures { result ≡ using.reads_struct (expr_of expr.now) }
 {
     match expr {
         CExpr::Const(..) | CExpr::Local(..) => false,
@@ -116,7 +128,7 @@ fn reads_struct(expr: &CExpr) -> bool
 
 /// Whether one of these expressions reads the struct.
 fn any_reads_struct(exprs: &[CExpr]) -> bool
-    ensures { result ≡ list_any spec.reads_struct (exprs_of exprs.now) }
+    ensures { result ≡ list_any using.reads_struct (exprs_of exprs.now) }
 {
     for expr in exprs {
         if reads_struct(expr) {
@@ -128,7 +140,7 @@ fn any_reads_struct(exprs: &[CExpr]) -> bool
 
 /// Whether a call of a function has the struct as an argument.
 fn passes_struct(labels: &Labels<'_>, function: u32) -> bool
-    ensures { result ≡ spec.passes_struct (labels_of labels.now) function }
+    ensures { result ≡ using.passes_struct (labels_of labels.now) function }
 {
     takes_struct(function_kind(labels, function))
 }
@@ -136,7 +148,7 @@ fn passes_struct(labels: &Labels<'_>, function: u32) -> bool
 /// Whether one of these cases has the struct as an argument.
 fn any_passes_struct(labels: &Labels<'_>, cases: &[Case]) -> bool
     ensures { result
-        ≡ list_any (λ (c : Case). spec.passes_struct (labels_of labels.now) c.function) cases.now }
+        ≡ list_any (λ (c : Case). using.passes_struct (labels_of labels.now) c.function) cases.now }
 {
     for case in cases {
         if passes_struct(labels, case.function) {
@@ -148,7 +160,7 @@ fn any_passes_struct(labels: &Labels<'_>, cases: &[Case]) -> bool
 
 /// Whether a line uses the struct.
 fn line_uses_struct(labels: &Labels<'_>, line: &Line) -> bool
-    ensures { result ≡ spec.line_uses_struct (labels_of labels.now) (line_of line.now) }
+    ensures { result ≡ using.line_uses_struct (labels_of labels.now) (line_of line.now) }
 {
     match line {
         Line::Set(_, _, expr) | Line::If(expr) | Line::While(expr) | Line::Return(expr) => {
@@ -171,7 +183,7 @@ fn line_uses_struct(labels: &Labels<'_>, line: &Line) -> bool
 /// Whether one of these lines uses the struct.
 pub fn any_line_uses_struct(labels: &Labels<'_>, lines: &[Line]) -> bool
     ensures { result
-        ≡ list_any (spec.line_uses_struct (labels_of labels.now)) (lines_in lines.now) }
+        ≡ list_any (using.line_uses_struct (labels_of labels.now)) (lines_in lines.now) }
 {
     for line in lines {
         if line_uses_struct(labels, line) {

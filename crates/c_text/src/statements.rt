@@ -10,7 +10,7 @@ use crate::kinds::{Kind, function_kind, print_function_label, takes_struct};
 use crate::labels::Labels;
 use crate::locals::{LocalName, print_local_label};
 use crate::numbers::print_number;
-use crate::reading::has_cases;
+use crate::reading::{has_cases, read_local};
 use crate::types::is_truth;
 use c_functions::WORD;
 use c_subset::{CExpr, CType, Case, Line};
@@ -129,22 +129,36 @@ fn print_argument(
     }
 }
 
-/// Appends a call whose result a local is given.
+/// Appends what stands before a call, whose result the local is given, if there is one.
+fn print_given(out: &mut String, kind: Kind, local: Option<LocalName>) -> Result<(), AllocError>
+    ensures { OnOk result
+        (string_bytes out.new ≡ string_bytes out.old ++ spec.given_text kind local) }
+{
+    match local {
+        Some(local) => {
+            print_local_label(out, kind, local)?;
+            out.push_str(" = ")
+        }
+        None => out.push_str("(void)"),
+    }
+}
+
+/// Appends a call whose result the local is given, if there is one.
 #[tactic(auto, unfolding(crate::specs::Statements::call_text))]
 fn print_call(
     out: &mut String,
     labels: &Labels<'_>,
     kind: Kind,
     depth: usize,
-    local: LocalName,
+    local: Option<LocalName>,
     function: u32,
     args: &[CExpr],
 ) -> Result<(), AllocError>
     ensures { OnOk result (string_bytes out.new ≡ string_bytes out.old
-        ++ spec.call_text (labels_of labels.now) kind depth local.of local.number function
-        (exprs_of args.now)) }
+        ++ spec.call_text (labels_of labels.now) kind depth local function (exprs_of args.now)) }
 {
-    print_target(out, kind, depth, local)?;
+    print_indent(out, depth)?;
+    print_given(out, kind, local)?;
     let callee = function_kind(labels, function);
     print_function_label(out, labels, function)?;
     out.push_str(if takes_struct(callee) { "(m" } else { "(" })?;
@@ -152,19 +166,28 @@ fn print_call(
     out.push_str(");\n")
 }
 
-/// Appends what a local is given a value by: its name and `=`.
-fn print_target(
+/// Appends that the local is given the value of an expression, if there is one.
+#[tactic(auto, unfolding(crate::specs::Statements::set_text))]
+fn print_set(
     out: &mut String,
+    labels: &Labels<'_>,
     kind: Kind,
     depth: usize,
-    local: LocalName,
+    local: Option<LocalName>,
+    expr: &CExpr,
 ) -> Result<(), AllocError>
-    ensures { OnOk result (string_bytes out.new ≡ string_bytes out.old ++ (spec.indent depth
-        ++ (local_label kind local.of local.number ++ codes " = "))) }
+    ensures { OnOk result (string_bytes out.new ≡ string_bytes out.old
+        ++ spec.set_text (labels_of labels.now) kind depth local (expr_of expr.now)) }
 {
-    print_indent(out, depth)?;
-    print_local_label(out, kind, local)?;
-    out.push_str(" = ")
+    match local {
+        Some(local) => {
+            print_indent(out, depth)?;
+            print_local_label(out, kind, local)?;
+            out.push_str(" = ")?;
+            print_value(out, labels, kind, local.of, expr)
+        }
+        None => Ok(()),
+    }
 }
 
 /// Appends a case of a `switch`.
@@ -174,14 +197,13 @@ fn print_case(
     labels: &Labels<'_>,
     kind: Kind,
     depth: usize,
-    local: LocalName,
+    local: Option<LocalName>,
     case: Case,
     args: &[CExpr],
 ) -> Result<(), AllocError>
     requires { depth < usize.MAX }
     ensures { OnOk result (string_bytes out.new ≡ string_bytes out.old
-        ++ spec.case_text (labels_of labels.now) kind depth local.of local.number
-        (exprs_of args.now) case) }
+        ++ spec.case_text (labels_of labels.now) kind depth local (exprs_of args.now) case) }
 {
     print_indent(out, depth)?;
     print_number(out, "case ", u128::from(case.label))?;
@@ -197,14 +219,14 @@ fn print_cases(
     labels: &Labels<'_>,
     kind: Kind,
     depth: usize,
-    local: LocalName,
+    local: Option<LocalName>,
     cases: &[Case],
     args: &[CExpr],
 ) -> Result<(), AllocError>
     requires { depth < usize.MAX }
     ensures { OnOk result (string_bytes out.new ≡ string_bytes out.old
-        ++ spec.cases_text (labels_of labels.now) kind depth local.of local.number
-        (exprs_of args.now) cases.now) }
+        ++ spec.cases_text (labels_of labels.now) kind depth local (exprs_of args.now)
+        cases.now) }
 {
     for case in cases {
         print_case(out, labels, kind, depth, local, *case, args)?;
@@ -253,15 +275,15 @@ fn print_switch(
     labels: &Labels<'_>,
     kind: Kind,
     depth: usize,
-    local: LocalName,
+    local: Option<LocalName>,
     expr: &CExpr,
     cases: &[Case],
     args: &[CExpr],
 ) -> Result<(), AllocError>
     requires { depth < usize.MAX }
     ensures { OnOk result (string_bytes out.new ≡ string_bytes out.old
-        ++ spec.switch_text (labels_of labels.now) kind depth local.of local.number
-        (expr_of expr.now) cases.now (exprs_of args.now)) }
+        ++ spec.switch_text (labels_of labels.now) kind depth local (expr_of expr.now) cases.now
+        (exprs_of args.now)) }
 {
     if !has_cases(cases) {
         return Ok(());
@@ -280,24 +302,26 @@ fn print_words(out: &mut String, depth: usize, words: &str) -> Result<(), AllocE
     out.push_str(words)
 }
 
-/// Appends a line of a function that gives a `result`.
+/// Appends one of the lines of a function that gives a `result_type`. A value that no line reads
+/// isn't written.
 #[tactic(auto, unfolding(crate::specs::Statements::line_text))]
 fn print_line(
     out: &mut String,
     labels: &Labels<'_>,
     kind: Kind,
+    lines: &[Line],
     result_type: CType,
     depth: usize,
     line: &Line,
 ) -> Result<(), AllocError>
     requires { depth < usize.MAX }
     ensures { OnOk result (string_bytes out.new ≡ string_bytes out.old
-        ++ spec.line_text (labels_of labels.now) kind result_type depth (line_of line.now)) }
+        ++ spec.line_text (labels_of labels.now) kind (lines_in lines.now) result_type depth
+        (line_of line.now)) }
 {
     match line {
         Line::Set(of, number, expr) => {
-            print_target(out, kind, depth, local_of(*of, *number))?;
-            print_value(out, labels, kind, *of, expr)
+            print_set(out, labels, kind, depth, read_local(lines, *of, *number), expr)
         }
         Line::Store(field, expr) => print_store(out, labels, kind, depth, *field, expr),
         Line::StoreAt(row, index, expr) => {
@@ -309,11 +333,11 @@ fn print_line(
             print_value(out, labels, kind, WORD, expr)
         }
         Line::Call(of, number, function, args) => {
-            let local = local_of(*of, *number);
+            let local = read_local(lines, *of, *number);
             print_call(out, labels, kind, depth, local, *function, args.items())
         }
         Line::Select(of, number, expr, cases, args) => {
-            let local = local_of(*of, *number);
+            let local = read_local(lines, *of, *number);
             let cases = cases.items();
             print_switch(out, labels, kind, depth, local, expr, cases, args.items())
         }
@@ -367,11 +391,12 @@ pub fn print_lines(
     lines: &[Line],
 ) -> Result<(), AllocError>
     ensures { OnOk result (string_bytes out.new ≡ string_bytes out.old
-        ++ spec.lines_text (labels_of labels.now) kind result_type 1 (lines_in lines.now)) }
+        ++ spec.lines_text (labels_of labels.now) kind (lines_in lines.now) result_type 1
+        (lines_in lines.now)) }
 {
     let mut depth: usize = 1;
     for line in lines {
-        print_line(out, labels, kind, result_type, depth, line)?;
+        print_line(out, labels, kind, lines, result_type, depth, line)?;
         depth = depth_after(depth, line);
     }
     Ok(())

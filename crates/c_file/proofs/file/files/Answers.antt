@@ -1,9 +1,12 @@
+use Rattle.std.proofs.Common.{sym, subst}
 use Rattle.std.proofs.lemmas.Result.{IfOk-weaker}
+use Rattle.actions.specs.Names.{Names}
+use Rattle.actions.specs.Runs.{AreInputValues}
 use Rattle.checked_chart.specs.Kept.{chart_of}
 use Rattle.code_language.specs.Code.{code_of}
 use Rattle.c_functions.specs.Writer.{plans_of}
 use Rattle.c_functions.specs.Files.{shape_of}
-use Rattle.c_functions.specs.Starts.{file_of}
+use Rattle.c_functions.specs.Starts.{AllGiven, file_of}
 use Rattle.c_shape.specs.FileShapes.{tests_seen}
 use Rattle.c_runs.specs.Claims.{FileRunsAsRules}
 use Rattle.c_passes.specs.Standing.{StandsFor}
@@ -35,6 +38,7 @@ returns c =
       file = file_made made;
       written = printed.written;
       changing = printed.changing;
+      order = printed.order;
       facts = printed.facts;
       is_written = is.is_written;
       limits_are = is.limits_are;
@@ -42,12 +46,17 @@ returns c =
       passed = passed made;
       hold = facts_hold made printed.written printed.facts printed.hold;
       may_change = may_change made printed.changing printed.may_change;
+      is_order = printed.is_order;
       header_is = same_lines _ _ _ (header_is made printed.facts identity) printed.header_is;
       source_is =
-          same_lines _ _ _ (source_is made printed.written printed.changing printed.facts identity) printed.source_is;
+          same_lines _ _ _ (source_is made printed.written printed.changing printed.order printed.facts identity)
+          printed.source_is;
       runs = record {
         runs = λ int s given events moments small has values all rules.
-            standing.runs int s given events moments (rules_run.runs int s given events moments small has values all rules);
+            standing.runs int s given events moments
+            (subst (λ (n : Names). AreInputValues n 0 given) (sym is.fits.names) values)
+            (subst (λ (n : Names). AllGiven n events) (sym is.fits.names) all)
+            (rules_run.runs int s given events moments small has values all rules);
         refuses = λ int small. standing.refuses int (rules_run.refuses int small);
       };
     }) c.printed_files.ensures

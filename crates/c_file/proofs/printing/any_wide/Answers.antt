@@ -2,7 +2,8 @@ use Rattle.std.proofs.Common.{◌&&◌, Bool, false, sym, ap, ◌∙◌, arith}
 use Rattle.std.proofs.lemmas.List.{at_drop_more, get_or-map}
 use Rattle.c_file.proofs.AskLemmas.{decides, passes, none_left}
 use Rattle.c_file.specs.Made.{functions_of}
-use Rattle.c_file.specs.Source.{any_wide, is_written}
+use Rattle.c_file.specs.Source.{any_wide}
+use Rattle.c_file.specs.Reached.{is_written}
 use Rattle.c_file.specs.Uses.{is_wide}
 use Rattle.c_file.proofs.FunctionLemmas.{no_function}
 use Rattle.c_file.proofs.printing.any_wide.Goals as goal

@@ -6,4 +6,5 @@ use Rattle.c_text.proofs.functions.add_locals.Given as goal
 -- the lines to come add what all add
 abbrev pub invariant-loop-line : goal.invariant-loop-line
 invariant-loop-line l =
-    with_locals l.seen.items (lines_in (drop l.line-index l.lines)) ≡ with_locals l.fn.seen.items (lines_in l.lines)
+    with_locals (lines_in l.lines) l.seen.items (lines_in (drop l.line-index l.lines))
+    ≡ with_locals (lines_in l.lines) l.fn.seen.items (lines_in l.lines)

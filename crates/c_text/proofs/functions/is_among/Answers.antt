@@ -1,5 +1,5 @@
 use Rattle.std.proofs.Common.{arith}
-use Rattle.c_text.specs.Functions.{same_local}
+use Rattle.c_text.specs.Reading.{same_local}
 use Rattle.c_text.proofs.LoopLemmas.{item_decides, item_passes, none_holds}
 use Rattle.c_text.proofs.functions.is_among.Goals as goal
 

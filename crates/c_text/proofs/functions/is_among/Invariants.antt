@@ -1,6 +1,6 @@
 use Rattle.std.proofs.Common.{◌≡◌, drop}
 use Rattle.std.specs.List.{list_any}
-use Rattle.c_text.specs.Functions.{same_local}
+use Rattle.c_text.specs.Reading.{same_local}
 use Rattle.c_text.proofs.functions.is_among.Given as goal
 
 -- the locals to come give what all give

@@ -11,7 +11,7 @@ slice_bounds-print_declarations-count c =
       ap length c.in_ok-add_locals.ensures,
       ap length c.in_ok-locals.ensures,
       parameters-length 0 c.args.types.now,
-      locals-kept c.in_ok-locals.locals.items (lines_in c.args.lines.now),
+      locals-kept (lines_in c.args.lines.now) c.in_ok-locals.locals.items (lines_in c.args.lines.now),
     )
 
 pub slice_bounds-print_declarations-start : goal.slice_bounds-print_declarations-start
@@ -23,7 +23,7 @@ slice_bounds-print_declarations-start c =
       ap length c.in_ok-add_locals.ensures,
       ap length c.in_ok-locals.ensures,
       parameters-length 0 c.args.types.now,
-      locals-kept c.in_ok-locals.locals.items (lines_in c.args.lines.now),
+      locals-kept (lines_in c.args.lines.now) c.in_ok-locals.locals.items (lines_in c.args.lines.now),
     ) in
     search rules
 
@@ -36,6 +36,6 @@ offset_bounds-deref-types c =
       ap length c.in_ok-add_locals.ensures,
       ap length c.in_ok-locals.ensures,
       parameters-length 0 c.args.types.now,
-      locals-kept c.in_ok-locals.locals.items (lines_in c.args.lines.now),
+      locals-kept (lines_in c.args.lines.now) c.in_ok-locals.locals.items (lines_in c.args.lines.now),
     ) in
     search rules

@@ -1,7 +1,7 @@
 use Rattle.std.proofs.Common.{◌≡◌, drop}
 use Rattle.std.specs.List.{list_any}
 use Rattle.c_subset.specs.Lines.{lines_in}
-use Rattle.c_text.specs.Functions.{line_reads}
+use Rattle.c_text.specs.Reading.{line_reads}
 use Rattle.c_text.proofs.reading.any_line_reads.Given as goal
 
 -- the lines to come give what all give

@@ -1,6 +1,6 @@
 use Rattle.std.proofs.Common.{arith}
 use Rattle.c_subset.specs.Lines.{expr_of}
-use Rattle.c_text.specs.Functions.{reads}
+use Rattle.c_text.specs.Reading.{reads}
 use Rattle.c_text.proofs.LoopLemmas.{seen_decides, seen_passes, none_seen}
 use Rattle.c_text.proofs.reading.any_reads.Goals as goal
 

@@ -10,7 +10,7 @@ pub loop-case-preserved : goal.loop-case-preserved
 loop-case-preserved c =
     more_printed _ _ _ _ _ _
     (at_drop_more
-    (cases_text (labels_of c.args.labels.now) c.args.kind c.args.depth c.args.local.of c.args.local.number
+    (cases_text (labels_of c.args.labels.now) c.args.kind c.args.depth c.args.local
     (exprs_of c.args.args.now))
     c.args.cases.now c.loop-case.case-index _ (omega arith))
     c.in_ok-print_case.ensures c.loop-case.invariant
@@ -18,6 +18,6 @@ loop-case-preserved c =
 pub returns : goal.returns
 returns c =
     all_printed
-    (cases_text (labels_of c.args.labels.now) c.args.kind c.args.depth c.args.local.of c.args.local.number
+    (cases_text (labels_of c.args.labels.now) c.args.kind c.args.depth c.args.local
     (exprs_of c.args.args.now))
     c.args.cases.now c.loop-case.case-index _ _ (omega arith) refl c.loop-case.invariant

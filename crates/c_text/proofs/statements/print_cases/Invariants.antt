@@ -9,7 +9,7 @@ use Rattle.c_text.proofs.statements.print_cases.Given as goal
 abbrev pub invariant-loop-case : goal.invariant-loop-case
 invariant-loop-case l =
     string_bytes l.out
-    ++ cases_text (labels_of l.labels) l.kind l.depth l.local.of l.local.number (exprs_of l.args)
+    ++ cases_text (labels_of l.labels) l.kind l.depth l.local (exprs_of l.args)
     (drop l.case-index l.cases)
     ≡ string_bytes l.fn.out
-    ++ cases_text (labels_of l.labels) l.kind l.depth l.local.of l.local.number (exprs_of l.args) l.cases
+    ++ cases_text (labels_of l.labels) l.kind l.depth l.local (exprs_of l.args) l.cases

@@ -9,7 +9,7 @@ use Rattle.c_text.proofs.statements.print_lines.Given as goal
 abbrev pub invariant-loop-line : goal.invariant-loop-line
 invariant-loop-line l = record {
   text : string_bytes l.out
-      ++ lines_text (labels_of l.labels) l.kind l.result_type l.depth (lines_in (drop l.line-index l.lines))
-      ≡ string_bytes l.fn.out ++ lines_text (labels_of l.labels) l.kind l.result_type 1 (lines_in l.lines);
+      ++ lines_text (labels_of l.labels) l.kind (lines_in l.lines) l.result_type l.depth (lines_in (drop l.line-index l.lines))
+      ≡ string_bytes l.fn.out ++ lines_text (labels_of l.labels) l.kind (lines_in l.lines) l.result_type 1 (lines_in l.lines);
   deep : l.depth ≤ l.line-index + 1;
 }

@@ -2,7 +2,7 @@ use Rattle.code_language.specs.Code.{code_of}
 use Rattle.c_shape.specs.FileShapes.{shape_seen}
 use Rattle.c_passes.specs.Passed.{looped_file}
 use Rattle.c_passes.proofs.FunctionLemmas.{AreSoFar}
-use Rattle.c_passes.proofs.chain.functions.Given as goal
+use Rattle.c_passes.proofs.chain.looped_functions.Given as goal
 
 -- the functions before the number are made
 abbrev pub invariant-loop-number : goal.invariant-loop-number

@@ -1,0 +1,23 @@
+use Rattle.std.proofs.Common.{refl, arith}
+use Rattle.std.proofs.lemmas.List.{at_drop_more}
+use Rattle.c_text.specs.Labels.{labels_of}
+use Rattle.c_text.proofs.LoopLemmas.{more_printed, all_printed}
+use Rattle.c_file.specs.Made.{functions_of}
+use Rattle.c_file.specs.Source.{each_declared}
+use Rattle.c_file.proofs.printing.print_each_declared.Goals as goal
+
+pub loop-number-preserved : goal.loop-number-preserved
+loop-number-preserved c =
+    more_printed _ _ _ _ _ _
+    (at_drop_more
+    (each_declared (labels_of c.args.made.now.labels) c.args.uses.now.changing.items
+    (functions_of c.args.made.now))
+    c.args.numbers.now c.loop-number.number-index _ (omega arith))
+    c.in_ok-print_declared.ensures c.loop-number.invariant
+
+pub returns : goal.returns
+returns c =
+    all_printed
+    (each_declared (labels_of c.args.made.now.labels) c.args.uses.now.changing.items
+    (functions_of c.args.made.now))
+    c.args.numbers.now c.loop-number.number-index _ _ (omega arith) refl c.loop-number.invariant

@@ -1,0 +1,30 @@
+use Rattle.std.proofs.Common.{◌≡◌, ◌++◌, ℕ, List, Option, Result, sym, ap, ◌∙◌, subst}
+use Rattle.std.specs.Prelude.{OnOk}
+use Rattle.c_subset.specs.declared.trees.Line.{Line}
+use Rattle.c_subset.specs.Lines.{expr_of, line_of, lines_in}
+use Rattle.c_text.specs.declared.locals.LocalName.{LocalName}
+use Rattle.c_text.specs.Labels.{labels_of}
+use Rattle.c_text.specs.Statements.{set_text, call_text, switch_text, line_text}
+use Rattle.c_text.proofs.statements.print_line.Goals as goal
+
+-- what was printed is an equal text
+printed_as : {E : Type 0} (r : Result (Unit {0}) E) (old new text other : List ℕ) → OnOk r (new ≡ old ++ text)
+    → text ≡ other → OnOk r (new ≡ old ++ other)
+printed_as r old new text other printed same = subst (λ (t : List ℕ). OnOk r (new ≡ old ++ t)) same printed
+
+pub returns-in-Set : goal.returns-in-Set
+unfolding line_text
+returns-in-Set c =
+    printed_as _ _ _ _ _ c.print_set.ensures
+    (ap (λ (x : Option LocalName). set_text (labels_of c.args.labels.now) c.args.kind c.args.depth x _)
+    c.read_local.ensures
+    ∙ ap (λ (x : Line). line_text (labels_of c.args.labels.now) c.args.kind (lines_in c.args.lines.now)
+    c.args.result_type c.args.depth (line_of x)) (sym c.in-Set.is))
+
+pub returns-in-Call : goal.returns-in-Call
+unfolding line_text
+returns-in-Call c = ?
+
+pub returns-in-Select : goal.returns-in-Select
+unfolding line_text
+returns-in-Select c = ?

@@ -22,10 +22,12 @@ use Rattle.c_functions.proofs.FilesFunctions.{range-length}
 use Rattle.c_loops.specs.Loops.{looped, loops_from}
 use Rattle.c_bare.specs.Needs.{is_bare}
 use Rattle.c_bare.specs.Bare.{AreFunctions, AreNeedless, bared, bared_from, with_bare}
+use Rattle.c_unread.specs.Unread.{trimmed_of, with_trimmed}
+use Rattle.c_pruned.specs.Pruned.{pruned_of, with_pruned}
 use Rattle.c_writer.specs.Functions.{IsAt, IsShapeOf}
 use Rattle.c_passes.specs.Passed.{function_of, functions_in, written_file, looped_file, ArePassed, AsItIs, Looped}
-use Rattle.c_passes.specs.Passed.{Bared}
-use Rattle.c_passes.proofs.HeadLemmas.{loops_count, bare_count}
+use Rattle.c_passes.specs.Passed.{Bared, Trimmed, Pruned}
+use Rattle.c_passes.proofs.HeadLemmas.{loops_count, bare_count, map_count}
 
 -- ---- how many there are
 
@@ -217,16 +219,17 @@ passed_count K k is fs made are same =
     ∙ sym (ap length (functions_are fs made.functions are) ∙ same
     ∙ file_count k K.tests K.bounds K.outputs (plans_of k))
 
--- ---- bare functions
+-- ---- functions that are made of others, one after the other
 
--- the functions that were taken are made, each with its number as in the file where those with a flag are bare
-pub record AreBareSoFar (flags : List Bool) (taken fs : List declared.Function) : Type 0 where
+-- the functions that were taken are made, each of them what turn makes of one with its number
+pub record AreTurnedSoFar (turn : ℕ → Function → Function) (taken fs : List declared.Function) : Type 0 where
   pub count : length fs ≡ length taken
   pub each : (i : ℕ) (t f : declared.Function) → slice_get taken i ≡ Some t → slice_get fs i ≡ Some f
-      → (g : Function) → IsFunction t g → IsFunction f (bared flags i g)
+      → (g : Function) → IsFunction t g → IsFunction f (turn i g)
 
-pub no_bare_so_far : (flags : List Bool) (fs : List declared.Function) → fs ≡ [] → AreBareSoFar flags [] fs
-no_bare_so_far flags fs none = record {
+pub none_turned : (turn : ℕ → Function → Function) (fs : List declared.Function) → fs ≡ []
+    → AreTurnedSoFar turn [] fs
+none_turned turn fs none = record {
   count = ap length none;
   each = λ i t f there. absurd (no_item i t there);
 } where
@@ -234,27 +237,75 @@ no_bare_so_far flags fs none = record {
   no_item zero t e = cc
   no_item (suc i) t e = cc
 
-pub one_more_bare : (flags : List Bool) (taken fs new : List declared.Function) (n : ℕ) (t f : declared.Function)
-    → AreBareSoFar flags taken fs → n ≡ length fs → ((g : Function) → IsFunction t g → IsFunction f (bared flags n g))
-    → new ≡ fs ++ f ∷ [] → AreBareSoFar flags (taken ++ t ∷ []) new
-one_more_bare flags taken fs new n t f so_far is makes new_is = record {
+pub one_more_turned : (turn : ℕ → Function → Function) (taken fs new : List declared.Function) (n : ℕ)
+    (t f : declared.Function) → AreTurnedSoFar turn taken fs → n ≡ length fs
+    → ((g : Function) → IsFunction t g → IsFunction f (turn n g)) → new ≡ fs ++ f ∷ []
+    → AreTurnedSoFar turn (taken ++ t ∷ []) new
+one_more_turned turn taken fs new n t f so_far is makes new_is = record {
   count =
       ap length new_is ∙ length-append fs (f ∷ []) ∙ ap (λ (m : ℕ). m + 1) so_far.count
       ∙ sym (length-append taken (t ∷ []));
   each =
       λ i u h there at. below_more (λ (i : ℕ). (u h : declared.Function) → slice_get (taken ++ t ∷ []) i ≡ Some u
-      → slice_get new i ≡ Some h → (g : Function) → IsFunction u g → IsFunction h (bared flags i g)) (length taken)
+      → slice_get new i ≡ Some h → (g : Function) → IsFunction u g → IsFunction h (turn i g)) (length taken)
       (λ i lt u h there at. so_far.each i u h (sym (before_end taken t i lt) ∙ there)
       (sym (before_end fs f i (omega (arith, lt, so_far.count)))
       ∙ ap (λ (xs : List declared.Function). slice_get xs i) (sym new_is) ∙ at))
-      (λ u h there at g is_u. subst (λ (x : declared.Function). IsFunction x (bared flags (length taken) g))
+      (λ u h there at g is_u. subst (λ (x : declared.Function). IsFunction x (turn (length taken) g))
       (at_end fs f h (length taken) (sym so_far.count)
       (ap (λ (xs : List declared.Function). slice_get xs (length taken)) (sym new_is) ∙ at))
-      (subst (λ (m : ℕ). IsFunction f (bared flags m g)) (is ∙ so_far.count)
+      (subst (λ (m : ℕ). IsFunction f (turn m g)) (is ∙ so_far.count)
       (makes g (subst (λ (x : declared.Function). IsFunction x g)
       (sym (at_end taken t u (length taken) refl there)) is_u)))) i
       (omega (arith, slice_get_within (taken ++ t ∷ []) i u there, length-append taken (t ∷ []))) u h there at;
 }
+
+-- a function that was taken, of which one is made
+record IsTaken (taken : List declared.Function) (i : ℕ) : Type 0 where
+  function : declared.Function
+  there : slice_get taken i ≡ Some function
+
+taken_at : (turn : ℕ → Function → Function) (taken fs : List declared.Function) → AreTurnedSoFar turn taken fs
+    → (i : ℕ) (f : declared.Function) → slice_get fs i ≡ Some f → IsTaken taken i
+taken_at turn taken fs so_far i f there =
+    let lt : i < length fs = slice_get_within fs i f there in record {
+      function = get_or taken i f;
+      there = slice_get-get_or taken i f (omega (arith, lt, so_far.count));
+    }
+
+-- ---- each by itself
+
+-- a function with a number of those that are made one by one
+record IsMappedAt (turn : Function → Function) (gs : List Function) (i : ℕ) (g : Function) : Type 0 where
+  function : Function
+  there : slice_get gs i ≡ Some function
+  is : turn function ≡ g
+
+mapped_at : (turn : Function → Function) (gs : List Function) (i : ℕ) (g : Function)
+    → slice_get (map turn gs) i ≡ Some g → IsMappedAt turn gs i g
+mapped_at turn [] zero g there = absurd cc
+mapped_at turn [] (suc i) g there = absurd cc
+mapped_at turn (x ∷ gs) zero g there = record { function = x; there = refl; is = some_is there } where
+  some_is : Some (turn x) ≡ Some g → turn x ≡ g
+  some_is e = cc
+mapped_at turn (x ∷ gs) (suc i) g there =
+    let rest = mapped_at turn gs i g there in
+    record { function = rest.function; there = rest.there; is = rest.is }
+
+-- when all were taken, they are those of the file of which each is made by itself
+pub all_mapped : (turn : Function → Function) (taken fs : List declared.Function)
+    → AreTurnedSoFar (λ i g. turn g) taken fs → (gs : List Function) → AreFunctions taken gs
+    → AreFunctions fs (map turn gs)
+all_mapped turn taken fs so_far gs are = record {
+  count = so_far.count ∙ are.count ∙ sym (map_count turn gs);
+  each =
+      λ i f g there at. let has : IsMappedAt turn gs i g = mapped_at turn gs i g at in
+      let t : IsTaken taken i = taken_at (λ i g. turn g) taken fs so_far i f there in
+      subst (IsFunction f) has.is
+      (so_far.each i t.function f t.there there has.function (are.each i t.function has.function t.there has.there));
+}
+
+-- ---- bare functions
 
 -- a function with a number in the file where those with a flag are bare
 record IsBaredAt (flags : List Bool) (gs : List Function) (i n : ℕ) (g : Function) : Type 0 where
@@ -281,32 +332,37 @@ bared_at flags (x ∷ gs) p (suc i) n g e there =
     record { function = rest.function; there = rest.there; is = rest.is }
 
 -- when all were taken, they are those of that file
-pub all_bare : (flags : List Bool) (taken fs : List declared.Function) → AreBareSoFar flags taken fs
+pub all_bare : (flags : List Bool) (taken fs : List declared.Function) → AreTurnedSoFar (bared flags) taken fs
     → (gs : List Function) → AreFunctions taken gs → AreFunctions fs (bared_from flags 0 gs)
 all_bare flags taken fs so_far gs are = record {
   count = so_far.count ∙ are.count ∙ sym (bare_count flags gs 0);
   each =
       λ i f g there at. let has : IsBaredAt flags gs i i g = bared_at flags gs 0 i i g (omega arith) at in
-      let lt : i < length fs = slice_get_within fs i f there in
-      let t : declared.Function = get_or taken i f in
-      let taken_at : slice_get taken i ≡ Some t =
-      slice_get-get_or taken i f (omega (arith, lt, so_far.count)) in
+      let t : IsTaken taken i = taken_at (bared flags) taken fs so_far i f there in
       subst (IsFunction f) has.is
-      (so_far.each i t f taken_at there has.function (are.each i t has.function taken_at has.there));
+      (so_far.each i t.function f t.there there has.function (are.each i t.function has.function t.there has.there));
 }
 
 -- ---- all of them
 
--- bare functions of those of a file that passes make are passed on
-pub bared_all : (K : Shape) (k : Code) (flags : List Bool) (fs made : List declared.Function)
+-- Functions that need no parameter have none, sets that nothing reads go, and then what nobody needs: those of a file
+-- that passes make
+pub all_passed : (K : Shape) (k : Code) (flags : List Bool) (fs bare trimmed made : List declared.Function)
     → AreFunctions fs (looped_file K k).functions
     → ((gs : List Function) → AreFunctions fs gs → AreNeedless flags gs) → is_bare flags (react_function K) ≡ false
-    → ((gs : List Function) → AreFunctions fs gs → AreFunctions made (bared_from flags 0 gs))
+    → ((gs : List Function) → AreFunctions fs gs → AreFunctions bare (bared_from flags 0 gs))
+    → ((gs : List Function) → AreFunctions bare gs → AreFunctions trimmed (map trimmed_of gs))
+    → ((gs : List Function) → AreFunctions trimmed gs → AreFunctions made (map pruned_of gs))
     → ArePassed K (written_file K k) made
-bared_all K k flags fs made looped needless reaction bares = record {
-  made = with_bare flags (looped_file K k);
-  passed =
-      Bared flags (looped_file K k) (Looped (length k.procedures.procs) (written_file K k) AsItIs)
-      (needless (looped_file K k).functions looped) reaction;
-  are = bares (looped_file K k).functions looped;
-}
+all_passed K k flags fs bare trimmed made looped needless reaction bares trims prunes =
+    let loops = looped_file K k in
+    let bare_file = with_bare flags loops in record {
+      made = with_pruned (with_trimmed bare_file);
+      passed =
+          Pruned (with_trimmed bare_file) (Trimmed bare_file
+          (Bared flags loops (Looped (length k.procedures.procs) (written_file K k) AsItIs)
+          (needless loops.functions looped) reaction));
+      are =
+          prunes (with_trimmed bare_file).functions
+          (trims bare_file.functions (bares loops.functions looped));
+    }

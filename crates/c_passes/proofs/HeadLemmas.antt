@@ -1,5 +1,5 @@
 -- Functions that passes make have the results that they had.
-use Rattle.std.proofs.Common.{◌≡◌, ◌⊎◌, ◌+◌, inl, inr, ℕ, zero, suc, Bool, true, false, cond, List, [], ◌∷◌, length, Some, slice_get}
+use Rattle.std.proofs.Common.{◌≡◌, ◌⊎◌, ◌+◌, inl, inr, ℕ, zero, suc, Bool, true, false, cond, List, [], ◌∷◌, length, map, Some, slice_get}
 use Rattle.std.proofs.Common.{refl, sym, ap, ◌∙◌, subst, arith}
 use Rattle.c_subset.specs.Lines.{lines_of}
 use Rattle.c_subset.specs.Trees.{Function, File}
@@ -110,6 +110,34 @@ all_or_nothing : (b : Bool) (ts us : List CType) → (us ≡ ts) ⊎ (us ≡ [])
     → (cond b [] us ≡ ts) ⊎ (cond b [] us ≡ [])
 all_or_nothing true ts us h = inr refl
 all_or_nothing false ts us h = h
+
+-- ---- functions that are made of others, each by itself
+
+-- each has the result and the parameters of that of which it is made
+pub map_head : (turn : Function → Function) → ((f : Function) → (turn f).result ≡ f.result)
+    → ((f : Function) → (turn f).parameters ≡ f.parameters) → (fs : List Function) (f : ℕ) (g : Function)
+    → slice_get (map turn fs) f ≡ Some g → HasHeadOf fs f g
+map_head turn results parameters [] zero g there = absurd cc
+map_head turn results parameters [] (suc f) g there = absurd cc
+map_head turn results parameters (x ∷ fs) zero g there =
+    let same = same_function (turn x) g there in record {
+      function = x;
+      there = refl;
+      result = sym (results x) ∙ ap (λ (h : Function). h.result) same;
+      parameters = sym (parameters x) ∙ ap (λ (h : Function). h.parameters) same;
+    }
+map_head turn results parameters (x ∷ fs) (suc f) g there =
+    let more = map_head turn results parameters fs f g there in record {
+      function = more.function;
+      there = more.there;
+      result = more.result;
+      parameters = more.parameters;
+    }
+
+-- there are as many of them
+pub map_count : (turn : Function → Function) (fs : List Function) → length (map turn fs) ≡ length fs
+map_count turn [] = refl
+map_count turn (f ∷ fs) = ap suc (map_count turn fs)
 
 -- ---- both
 

@@ -12,10 +12,14 @@ use Rattle.c_functions.specs.Writer.{plans_of}
 use Rattle.c_loops.proofs.Runs as loops
 use Rattle.c_bare.specs.Bare.{handed}
 use Rattle.c_bare.proofs.Law as bare
-use Rattle.c_passes.specs.Passed.{IsPassed, AsItIs, Looped, Bared}
+use Rattle.c_unread.specs.Unread.{trimmed_of}
+use Rattle.c_unread.proofs.Calling as unread
+use Rattle.c_pruned.specs.Pruned.{pruned_of}
+use Rattle.c_pruned.proofs.Law as pruned
+use Rattle.c_passes.specs.Passed.{IsPassed, AsItIs, Looped, Bared, Trimmed, Pruned}
 use Rattle.c_passes.specs.Standing.{HasOutside, StandsFor}
 use Rattle.c_passes.proofs.FunctionLemmas.{first_count}
-use Rattle.c_passes.proofs.HeadLemmas.{loops_count, loop_head, bare_count, bare_head, own_head, kept_head, fewer_head}
+use Rattle.c_passes.proofs.HeadLemmas.{loops_count, loop_head, bare_count, bare_head, own_head, kept_head, fewer_head, map_count, map_head}
 
 same : (n f : ℕ) → n ≡ 0 + f → n ≡ f
 same n f e = omega (arith, e)
@@ -57,6 +61,32 @@ stands K file _ (Bared flags made passed needless reaction) =
           bare.runs-as flags made needless K reaction int s given events moments
           (h.runs int s given events moments values all run);
       refuses = λ int refuses. bare.refuses-as flags made needless K reaction int (h.refuses int refuses);
+    }
+stands K file _ (Trimmed made passed) =
+    let h : StandsFor K file made = stands K file made passed in record {
+      fields = h.fields;
+      rows = h.rows;
+      count = map_count trimmed_of made.functions ∙ h.count;
+      heads =
+          λ f g there. let has = map_head trimmed_of (λ g. refl) (λ g. refl) made.functions f g there in
+          kept_head K file f g has.function has.result has.parameters (h.heads f has.function has.there);
+      runs =
+          λ int s given events moments values all run. unread.runs-as made K int s given events moments
+          (h.runs int s given events moments values all run);
+      refuses = λ int refuses. unread.refuses-as made K int (h.refuses int refuses);
+    }
+stands K file _ (Pruned made passed) =
+    let h : StandsFor K file made = stands K file made passed in record {
+      fields = h.fields;
+      rows = h.rows;
+      count = map_count pruned_of made.functions ∙ h.count;
+      heads =
+          λ f g there. let has = map_head pruned_of (λ g. refl) (λ g. refl) made.functions f g there in
+          kept_head K file f g has.function has.result has.parameters (h.heads f has.function has.there);
+      runs =
+          λ int s given events moments values all run. pruned.runs-as made K int s given events moments
+          (h.runs int s given events moments values all run);
+      refuses = λ int refuses. pruned.refuses-as made K int (h.refuses int refuses);
     }
 
 -- ---- what is called from outside

@@ -12,6 +12,8 @@ use Rattle.c_functions.specs.Starts.{file_of}
 use Rattle.c_loops.specs.Loops.{with_loops}
 use Rattle.c_bare.specs.Needs.{is_bare}
 use Rattle.c_bare.specs.Bare.{AreFunctions, AreNeedless, with_bare}
+use Rattle.c_unread.specs.Unread.{with_trimmed}
+use Rattle.c_pruned.specs.Pruned.{with_pruned}
 
 -- ---- functions of the code
 
@@ -49,6 +51,10 @@ module _ (K : Shape) (file : File) where
     -- functions with a flag, which need no parameter, have none; the reaction keeps its event
     Bared : (flags : List Bool) (made : File) → IsPassed made → AreNeedless flags made.functions
         → is_bare flags (react_function K) ≡ false → IsPassed (with_bare flags made)
+    -- sets of locals that nothing reads are gone
+    Trimmed : (made : File) → IsPassed made → IsPassed (with_trimmed made)
+    -- parts of an `if` that nobody needs are gone
+    Pruned : (made : File) → IsPassed made → IsPassed (with_pruned made)
 
   -- these functions of the code are those of such a file
   pub record ArePassed (functions : List declared_function.Function) : Type 0 where

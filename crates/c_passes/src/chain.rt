@@ -1,5 +1,5 @@
 //! The functions of the C of code.
-ghost use Rattle.std.specs.Prelude.{◌≡◌, ◌<◌, IfOk, List, Some, length};
+ghost use Rattle.std.specs.Prelude.{◌≡◌, ◌<◌, IfOk, List, Some, length, map};
 ghost use Rattle.std.specs.Prelude.{slice_get};
 ghost use Rattle.code_language.specs.Code.{code_of};
 ghost use Rattle.c_shape.specs.FileShapes.{shape_seen};
@@ -7,13 +7,17 @@ ghost use Rattle.c_subset.specs.Lines.{IsFunction};
 ghost use Rattle.c_subset.specs.Trees as c;
 ghost use Rattle.c_writer.specs.Functions.{IsShapeOf};
 ghost use Rattle.c_bare.specs.Bare.{AreFunctions, bared_from};
+ghost use Rattle.c_unread.specs.Unread.{trimmed_of};
+ghost use Rattle.c_pruned.specs.Pruned.{pruned_of};
 ghost use Rattle.c_passes.specs.Passed.{ArePassed, looped_file, written_file};
 
 use c_bare::{bare_function, bare_functions};
 use c_functions::function_offsets::OTHER_FUNCTIONS;
 use c_loops::with_loop;
+use c_pruned::pruned_function;
 use c_shape::FileShape;
 use c_subset::Function;
+use c_unread::trimmed_function;
 use c_writer::function;
 use code_language::Code;
 use flow_base::Memory;
@@ -79,9 +83,34 @@ fn bared(alloc: Global, flags: &[bool], functions: Vec<Function>) -> Result<Vec<
     Ok(made)
 }
 
+/// The functions of a file without sets of locals that nothing reads.
+fn trimmed(alloc: Global, functions: Vec<Function>) -> Result<Vec<Function>, Memory>
+    ensures { IfOk result (λ made. (gs : List c.Function) → AreFunctions functions.items gs
+        → AreFunctions made.items (map trimmed_of gs)) }
+{
+    let mut made = Vec::new(alloc);
+    for function in functions {
+        made.push(trimmed_function(alloc, function)?)?;
+    }
+    Ok(made)
+}
+
+/// The functions of a file without parts of an `if` that nobody needs.
+fn pruned(alloc: Global, functions: Vec<Function>) -> Result<Vec<Function>, Memory>
+    ensures { IfOk result (λ made. (gs : List c.Function) → AreFunctions functions.items gs
+        → AreFunctions made.items (map pruned_of gs)) }
+{
+    let mut made = Vec::new(alloc);
+    for function in functions {
+        made.push(pruned_function(alloc, function)?)?;
+    }
+    Ok(made)
+}
+
 /// The functions of the C of code, by number: first come those of the procedures, each a loop where
 /// it may be, then those after them. Those that need no parameter have none, but the reaction, which
-/// is called from outside.
+/// is called from outside; sets of locals that nothing reads are gone, and so is what nobody needs of
+/// an `if`.
 ///
 /// All functions are in memory at once, and one of them as a tree. `Memory` only where memory was
 /// refused.
@@ -92,5 +121,7 @@ pub fn functions(alloc: Global, shape: &FileShape<'_>, code: &Code) -> Result<Ve
 {
     let made = looped_functions(alloc, shape, code)?;
     let flags = bare_functions(alloc, shape.react_function() as usize, &made)?;
-    bared(alloc, &flags, made)
+    let bare = bared(alloc, &flags, made)?;
+    let fewer = trimmed(alloc, bare)?;
+    pruned(alloc, fewer)
 }

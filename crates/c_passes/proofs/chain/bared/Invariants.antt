@@ -1,8 +1,9 @@
 use Rattle.std.proofs.Common.{List}
 use Rattle.c_subset.specs.Trees.{Function}
-use Rattle.c_passes.proofs.FunctionLemmas.{AreBareSoFar}
+use Rattle.c_bare.specs.Bare.{bared}
+use Rattle.c_passes.proofs.FunctionLemmas.{AreTurnedSoFar}
 use Rattle.c_passes.proofs.chain.bared.Given as goal
 
 -- so many functions are made as were taken, each of them as it is in the file with bare functions
 abbrev pub invariant-loop-function : goal.invariant-loop-function
-invariant-loop-function l = AreBareSoFar l.flags l.yielded l.made.items
+invariant-loop-function l = AreTurnedSoFar (bared l.flags) l.yielded l.made.items

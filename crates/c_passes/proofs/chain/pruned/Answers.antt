@@ -1,0 +1,15 @@
+use Rattle.c_pruned.specs.Pruned.{pruned_of}
+use Rattle.c_passes.proofs.FunctionLemmas.{none_turned, one_more_turned, all_mapped}
+use Rattle.std.proofs.Common.{refl}
+use Rattle.c_passes.proofs.chain.pruned.Goals as goal
+
+pub loop-function-init : goal.loop-function-init
+loop-function-init c = none_turned (λ i g. pruned_of g) _ c.new-made.ensures.items
+
+pub loop-function-preserved : goal.loop-function-preserved
+loop-function-preserved c =
+    one_more_turned (λ i g. pruned_of g) _ _ _ _ _ _ c.loop-function.invariant refl c.in_ok-pruned_function.ensures
+    c.in_ok-push.ensures.items
+
+pub returns : goal.returns
+returns c = ?

@@ -17,7 +17,7 @@ use Rattle.c_file.specs.declared.calls.FunctionCall.{FunctionCall}
 use Rattle.c_file.specs.Calls.{calls_in}
 use Rattle.c_file.specs.Reached.{IsFlagged, is_written, outside_of, AreReached}
 use Rattle.c_file.specs.Order.{times, IsOrder, AreBelow, calls_by, is_called, is_early, declared_in}
-use Rattle.c_file.specs.Ordering.{IsPlaced, Places, Stands, AreEarly}
+use Rattle.c_file.specs.Ordering.{is_next, IsPlaced, Places, Stands, AreEarly}
 use Rattle.c_file.proofs.ReachLemmas.{unset_there, set_there, same_flag, either_joined, either_none}
 
 -- ---- numbers and flags
@@ -28,14 +28,33 @@ same_number n f e = grind (arith, e)
 itself : (n : ℕ) → (n == n) ≡ true
 itself n = nat_eq_equiv.refl n
 
+-- a flag that was set, and another one
+set_at : (bs : List Bool) (p : ℕ) → p < length bs → slice_index_or (slice_set bs p true) p false ≡ true
+set_at [] p lt = absurd (omega (arith, lt))
+set_at (b ∷ bs) zero lt = refl
+set_at (b ∷ bs) (suc p) lt = set_at bs p (omega (arith, lt))
+
+set_other : (bs : List Bool) (p g : ℕ) → p ≢ g
+    → slice_index_or (slice_set bs p true) g false ≡ slice_index_or bs g false
+set_other [] p g other = refl
+set_other (b ∷ bs) zero zero other = absurd (other refl)
+set_other (b ∷ bs) zero (suc g) other = refl
+set_other (b ∷ bs) (suc p) zero other = refl
+set_other (b ∷ bs) (suc p) (suc g) other = set_other bs p g (λ e. other (ap suc e))
+
 -- a flag after one was set
 pub set_flag : (bs : List Bool) (p g : ℕ) → p < length bs
     → slice_index_or (slice_set bs p true) g false ≡ (p == g || slice_index_or bs g false)
-set_flag [] p g lt = absurd (omega (arith, lt))
-set_flag (b ∷ bs) zero zero lt = refl
-set_flag (b ∷ bs) zero (suc g) lt = refl
-set_flag (b ∷ bs) (suc p) zero lt = refl
-set_flag (b ∷ bs) (suc p) (suc g) lt = set_flag bs p g (omega (arith, lt))
+set_flag bs p g lt = by (p == g) refl where
+  differ : false ≡ true → ⊥
+  differ e = cc e
+
+  by : (b : Bool) → b ≡ (p == g) → slice_index_or (slice_set bs p true) g false ≡ (b || slice_index_or bs g false)
+  by true e =
+      subst (λ (m : ℕ). slice_index_or (slice_set bs p true) m false ≡ true) (same_number p g (sym e)) (set_at bs p lt)
+  by false e =
+      set_other bs p g
+      (λ same. differ (e ∙ ap (λ (m : ℕ). p == m) (sym same) ∙ itself p))
 
 -- one that isn't set
 unset_flag : (bs : List Bool) (p : ℕ) → slice_index_or bs p true ≡ false → slice_index_or bs p false ≡ false
@@ -71,16 +90,16 @@ none_placed reached placed order none empty = record {
       λ f. ap (times f) empty
       ∙ ap (λ (b : Bool). cond b 1 0)
       (sym (ap (λ (bs : List Bool). slice_index_or bs f false) none ∙ no_flag (length reached) f));
-  reached =
+  are_reached =
       λ f set. absurd (cc (sym set
       ∙ ap (λ (bs : List Bool). slice_index_or bs f false) none ∙ no_flag (length reached) f));
 }
 
 module _ (reached placed : List Bool) (order : List ℕ) (n : ℕ) (is : IsPlaced reached placed order) where
   -- a function that is reached and isn't there is put there
-  pub placed_more : IsFlagged reached n → slice_index_or placed n true ≡ false → (new : List Bool)
-      → new ≡ slice_set placed n true → (now : List ℕ) → now ≡ order ++ n ∷ [] → Places reached n placed new now
-  placed_more set unset new new_is now now_is = record {
+  pub placed_more : is_next reached placed n ≡ true → (new : List Bool) → new ≡ slice_set placed n true
+      → (now : List ℕ) → now ≡ order ++ n ∷ [] → Places reached n placed new now
+  placed_more next new new_is now now_is = record {
     is = record {
       size = ap length new_is ∙ set_size placed n ∙ is.size;
       each =
@@ -89,11 +108,19 @@ module _ (reached placed : List Bool) (order : List ℕ) (n : ℕ) (is : IsPlace
           (λ same. ap (λ (m : ℕ). slice_index_or placed m false) (sym (same_number n f same)) ∙ unset_flag placed n unset)
           (times f order) (is.each f)
           ∙ ap (λ (b : Bool). cond b 1 0) (sym (flag f));
-      reached = λ f on. from (n == f) (slice_index_or placed f false) f refl refl (sym (flag f) ∙ on);
+      are_reached = λ f on. from (n == f) (slice_index_or placed f false) f refl refl (sym (flag f) ∙ on);
     };
     kept = λ f on. flag f ∙ last (n == f) (slice_index_or placed f false) on;
     placed = λ on. flag n ∙ ap (λ (b : Bool). b || slice_index_or placed n false) (itself n);
   } where
+    set : IsFlagged reached n
+    set = (and_parts (slice_index_or reached n false) (not (slice_index_or placed n true)) next).0
+
+    unset : slice_index_or placed n true ≡ false
+    unset =
+        not-true (slice_index_or placed n true)
+        (and_parts (slice_index_or reached n false) (not (slice_index_or placed n true)) next).1
+
     flag : (f : ℕ) → slice_index_or new f false ≡ (n == f || slice_index_or placed f false)
     flag f =
         ap (λ (bs : List Bool). slice_index_or bs f false) new_is ∙ set_flag placed n f (unset_there placed n unset)
@@ -105,11 +132,17 @@ module _ (reached placed : List Bool) (order : List ℕ) (n : ℕ) (is : IsPlace
     from : (a b : Bool) (f : ℕ) → a ≡ (n == f) → b ≡ slice_index_or placed f false → (a || b) ≡ true
         → IsFlagged reached f
     from true b f e h on = subst (IsFlagged reached) (same_number n f (sym e)) set
-    from false b f e h on = is.reached f (sym h ∙ on)
+    from false b f e h on = is.are_reached f (sym h ∙ on)
+
+  -- there is a flag for it
+  pub next_there : is_next reached placed n ≡ true → n < length placed
+  next_there next =
+      unset_there placed n
+      (not-true (slice_index_or placed n true)
+      (and_parts (slice_index_or reached n false) (not (slice_index_or placed n true)) next).1)
 
   -- another one isn't
-  pub placed_same : (slice_index_or reached n false && not (slice_index_or placed n true)) ≡ false
-      → Places reached n placed placed order
+  pub placed_same : is_next reached placed n ≡ false → Places reached n placed placed order
   placed_same there = record {
     is = is;
     kept = λ f on. on;
@@ -158,7 +191,7 @@ pub all_placed : (reached placed : List Bool) (order : List ℕ) (n : ℕ) → l
 all_placed reached placed order n past all =
     λ f. all.is.each f
     ∙ ap (λ (b : Bool). cond b 1 0)
-    (same_truth (slice_index_or placed f false) (slice_index_or reached f false) (all.is.reached f)
+    (same_truth (slice_index_or placed f false) (slice_index_or reached f false) (all.is.are_reached f)
     (λ on. all.all f (omega (arith, set_there reached f on, past)) on))
 
 -- ---- numbers of functions
@@ -176,7 +209,7 @@ each_item P (x ∷ xs) h =
 
     later : (b : Bool) (t : ℕ) → 1 ≤ t → 1 ≤ cond b 1 0 + t
     later true t le = omega arith
-    later false t le = le
+    later false t le = omega (arith, le)
 
 -- those of an order are numbers of functions
 pub order_below : (written : List Bool) (order : List ℕ) (n : ℕ) → IsOrder written order → length written ≡ n
@@ -296,8 +329,8 @@ pub stands_now : (functions : List Function) (n : ℕ) (stands now early later :
 stands_now functions n stands now early later calls within now_is same calls_is flags = record {
   size = ap length now_is ∙ set_size stands n;
   same_size = same;
-  stands = λ g lt. ap (λ (bs : List Bool). slice_index_or bs g false) now_is ∙ set_flag stands n g within;
-  early =
+  now_stand = λ g lt. ap (λ (bs : List Bool). slice_index_or bs g false) now_is ∙ set_flag stands n g within;
+  are_early =
       λ g lt. flags g lt
       ∙ ap (λ (xs : List FunctionCall).
       slice_index_or early g false || (not (slice_index_or now g false) && is_called g xs)) (sym calls_is);
@@ -351,8 +384,8 @@ one_early functions stands now early later xs order i d within so_far more = let
       let C : Bool = is_called g (calls_by functions f) in
       let R : Bool = is_early functions (drop (i + 1) xs) g in
       let now_is : slice_index_or now g false ≡ (f == g || S) =
-      more.stands g (omega (arith, lt, so_far.size)) in
-      ap (λ (b : Bool). b || (not (slice_index_or now g false) && R)) (more.early g (omega (arith, lt, so_far.same_size)))
+      more.now_stand g (omega (arith, lt, so_far.size)) in
+      ap (λ (b : Bool). b || (not (slice_index_or now g false) && R)) (more.are_early g (omega (arith, lt, so_far.same_size)))
       ∙ ap (λ (b : Bool). (N || (not b && C)) || (not b && R)) now_is
       ∙ stepped (f == g) S N C R
       ∙ ap (λ (b : Bool). N || (not S && b))
@@ -392,7 +425,7 @@ module _ (L : Labels) (functions : List Function) (order : List ℕ) where
       (there : get_or xs i d < length functions) (now : List ℕ)
       (so_far : now ++ those (drop i xs) ≡ declared_in L functions order) where
     -- one more, by its flag
-    pub one_declared : (slice_index_or early (get_or xs i d) false && not (outside_of L (get_or xs i d))) ≡ true
+    one_declared : (slice_index_or early (get_or xs i d) false && not (outside_of L (get_or xs i d))) ≡ true
         → (new : List ℕ) → new ≡ now ++ get_or xs i d ∷ []
         → new ++ those (drop (i + 1) xs) ≡ declared_in L functions order
     one_declared is new new_is =
@@ -402,12 +435,25 @@ module _ (L : Labels) (functions : List Function) (order : List ℕ) where
         (sym is ∙ told functions order early are (get_or xs i d) there (outside_of L (get_or xs i d)))
         ∙ ap (λ (fs : List ℕ). now ++ fs) (sym (at_drop_more those xs i d within)) ∙ so_far
 
-    pub one_not_declared : (slice_index_or early (get_or xs i d) false && not (outside_of L (get_or xs i d))) ≡ false
+    one_not_declared : (slice_index_or early (get_or xs i d) false && not (outside_of L (get_or xs i d))) ≡ false
         → now ++ those (drop (i + 1) xs) ≡ declared_in L functions order
     one_not_declared is =
         ap (λ (b : Bool). now ++ cond b (get_or xs i d ∷ those (drop (i + 1) xs)) (those (drop (i + 1) xs)))
         (sym is ∙ told functions order early are (get_or xs i d) there (outside_of L (get_or xs i d)))
         ∙ ap (λ (fs : List ℕ). now ++ fs) (sym (at_drop_more those xs i d within)) ∙ so_far
+
+    -- one more or not
+    pub next_declared : (new : List ℕ)
+        → new ≡ cond (slice_index_or early (get_or xs i d) false && not (outside_of L (get_or xs i d)))
+        (now ++ get_or xs i d ∷ []) now → new ++ those (drop (i + 1) xs) ≡ declared_in L functions order
+    next_declared new is = by (slice_index_or early (get_or xs i d) false && not (outside_of L (get_or xs i d))) refl
+      where
+        by : (b : Bool) → (slice_index_or early (get_or xs i d) false && not (outside_of L (get_or xs i d))) ≡ b
+            → new ++ those (drop (i + 1) xs) ≡ declared_in L functions order
+        by true e = one_declared e new (is ∙ ap (λ (c : Bool). cond c (now ++ get_or xs i d ∷ []) now) e)
+        by false e =
+            ap (λ (fs : List ℕ). fs ++ those (drop (i + 1) xs))
+            (is ∙ ap (λ (c : Bool). cond c (now ++ get_or xs i d ∷ []) now) e) ∙ one_not_declared e
 
   pub all_declared : (xs : List ℕ) (i : ℕ) → length xs ≤ i → (now : List ℕ)
       → now ++ those (drop i xs) ≡ declared_in L functions order → now ≡ declared_in L functions order

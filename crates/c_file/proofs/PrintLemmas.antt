@@ -1,5 +1,9 @@
 -- Texts that are printed one after the other.
-use Rattle.std.proofs.Common.{◌≡◌, ℕ, Bool, List, [], ◌++◌, ap, ◌∙◌, append_assoc}
+use Rattle.std.proofs.Common.{◌≡◌, ◌<◌, ℕ, Bool, List, [], ◌++◌, length, slice_get, get_or, Option, Some, Result, sym}
+use Rattle.std.proofs.Common.{ap, subst, ◌∙◌, append_assoc}
+use Rattle.std.specs.Prelude.{OnOk}
+use Rattle.std.specs.Option.{option_map_or}
+use Rattle.std.proofs.lemmas.Option.{slice_get-get_or}
 use Rattle.flow_base.specs.Lists.{items_of}
 use Rattle.c_subset.specs.declared.trees.CType.{CType}
 use Rattle.c_subset.specs.declared.trees.Function as declared
@@ -52,3 +56,17 @@ declared_as L f r s h g ts old now reads items is printed =
     printed ∙ ap (λ (b : Bool). old ++ prototype_text L f b h.result ts) reads
     ∙ ap (λ (t : CType). old ++ prototype_text L f s t ts) is.result
     ∙ ap (λ (xs : List CType). old ++ prototype_text L f s g.result xs) (items ∙ is.parameters)
+
+-- a text that was printed is an equal one
+pub printed_as : {E : Type 0} (r : Result (Unit {0}) E) (old new text other : List ℕ) → OnOk r (new ≡ old ++ text)
+    → text ≡ other → OnOk r (new ≡ old ++ other)
+printed_as r old new text other printed same = subst (λ (t : List ℕ). OnOk r (new ≡ old ++ t)) same printed
+
+-- what is printed of the function that has a number in the file
+pub at_number : (text : Function → List ℕ) (functions : List Function) (f : ℕ) (d : Function) (old now : List ℕ)
+    → f < length functions → ((g : Function) → slice_get functions f ≡ Some g → now ≡ old ++ text g)
+    → now ≡ old ++ option_map_or text (slice_get functions f) []
+at_number text functions f d old now within printed =
+    let there : slice_get functions f ≡ Some (get_or functions f d) = slice_get-get_or functions f d within in
+    printed (get_or functions f d) there
+    ∙ ap (λ (o : Option Function). old ++ option_map_or text o []) (sym there)

@@ -99,17 +99,21 @@ abbrev pub declarations_text : Labels → List Bool → List Function → List �
 declarations_text L changing functions [] = []
 declarations_text L changing functions (f ∷ fs) = 10 ∷ each_declared L changing functions (f ∷ fs)
 
--- the function that has a number in the file, under its comment
-unfoldable pub commented_text : Labels → List (List ℕ) → List Bool → List Function → ℕ → List ℕ
-commented_text L said changing functions f =
-    option_map_or (λ (g : Function). comment_text said f
-    ++ function_text L f (only_reads changing f) g.result g.parameters (lines_of g.body)) (slice_get functions f) []
+-- a function under its comment
+abbrev pub commented_text : Labels → List (List ℕ) → List Bool → ℕ → Function → List ℕ
+commented_text L said changing f g =
+    comment_text said f ++ function_text L f (only_reads changing f) g.result g.parameters (lines_of g.body)
+
+-- the function that has a number in the file
+unfoldable pub numbered_text : Labels → List (List ℕ) → List Bool → List Function → ℕ → List ℕ
+numbered_text L said changing functions f =
+    option_map_or (commented_text L said changing f) (slice_get functions f) []
 
 -- functions with numbers
 abbrev pub functions_text : Labels → List (List ℕ) → List Bool → List Function → List ℕ → List ℕ
 functions_text L said changing functions [] = []
 functions_text L said changing functions (f ∷ fs) =
-    commented_text L said changing functions f ++ functions_text L said changing functions fs
+    numbered_text L said changing functions f ++ functions_text L said changing functions fs
 
 -- what stands before the functions, which are written in that order
 abbrev pub front_text : Labels → Identity → Bounds → ℕ → ℕ → ℕ → List Function → List Bool → List Bool → List ℕ

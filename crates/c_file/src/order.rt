@@ -1,12 +1,13 @@
 //! In which order the functions of a source stand: where no function calls itself, each stands behind
 //! those that it calls. The order is searched for; whatever was found, each function that is written
 //! stands there once.
-ghost use Rattle.std.specs.Prelude.{◌≡◌, ◌<◌, ◌||◌, ◌&&◌, not, ℕ, IfOk, OnOk, false, length};
-ghost use Rattle.std.specs.Prelude.{slice_index_or};
+ghost use Rattle.std.specs.Prelude.{◌≡◌, ◌<◌, ◌||◌, ◌&&◌, ◌++◌, ◌∷◌, [], not, ℕ, IfOk, OnOk, false};
+ghost use Rattle.std.specs.Prelude.{if◌then◌else◌, length, slice_index_or};
 ghost use Rattle.c_text.specs.Labels.{labels_of};
 ghost use Rattle.c_file.specs.Made.{AreUses, IsMade, IsOrderOf, functions_of};
 ghost use Rattle.c_file.specs.Order as spec;
-ghost use Rattle.c_file.specs.Ordering.{AreEarly, IsPlaced, Places, Stands};
+ghost use Rattle.c_file.specs.Reached.{outside_of};
+ghost use Rattle.c_file.specs.Ordering.{AreEarly, IsPlaced, Places, Stands, is_next};
 
 use crate::calls::{FunctionCall, add_lines, flag_of};
 use crate::known::{Uses, is_outside};
@@ -25,6 +26,13 @@ pub(crate) struct Order {
     pub declared: Vec<u32>,
 }
 
+/// Whether a function is reached, and doesn't stand in the order yet.
+fn is_next(reached: &[bool], placed: &[bool], number: u32) -> bool
+    ensures { result ≡ is_next reached.now placed.now number }
+{
+    flag_of(reached, number, false) && !flag_of(placed, number, true)
+}
+
 /// Puts a function at the end, where it is reached and doesn't stand there yet.
 fn place(
     reached: &[bool],
@@ -36,7 +44,7 @@ fn place(
     ensures { OnOk result
         (Places reached.now number placed.old placed.new order.new.items) }
 {
-    if flag_of(reached, number, false) && !flag_of(placed, number, true) {
+    if is_next(reached, placed, number) {
         placed[number as usize] = true;
         order.push(number)?;
     }
@@ -118,6 +126,23 @@ fn early_flags(alloc: Global, made: &Made<'_>, order: &[u32]) -> Result<Vec<bool
     Ok(early)
 }
 
+/// Adds a function where it is called before it stands, and isn't called from outside.
+fn declare(
+    made: &Made<'_>,
+    early: &[bool],
+    declared: &mut Vec<u32>,
+    number: u32,
+) -> Result<(), Memory>
+    ensures { OnOk result (declared.new.items ≡ (if slice_index_or early.now number false
+        && not (outside_of (labels_of made.now.labels) number)
+        then declared.old.items ++ number ∷ [] else declared.old.items)) }
+{
+    if flag_of(early, number, false) && !is_outside(function_kind(&made.labels, number)) {
+        declared.push(number)?;
+    }
+    Ok(())
+}
+
 /// The functions that are called before they stand in this order, and aren't called from outside.
 fn declared(
     alloc: Global,
@@ -132,9 +157,7 @@ fn declared(
 {
     let mut declared = Vec::new(alloc);
     for number in order {
-        if flag_of(early, *number, false) && !is_outside(function_kind(&made.labels, *number)) {
-            declared.push(*number)?;
-        }
+        declare(made, early, &mut declared, *number)?;
     }
     Ok(declared)
 }

@@ -1,11 +1,13 @@
 //! A source, printed.
-ghost use Rattle.std.specs.Prelude.{◌≡◌, ◌<◌, ◌++◌, ◌&&◌, IfOk, OnOk, false, length, map};
-ghost use Rattle.std.specs.Prelude.{slice_index_or, string_bytes};
+ghost use Rattle.std.specs.Prelude.{◌≡◌, ◌<◌, ◌++◌, ◌&&◌, IfOk, OnOk, Some, false, length, map};
+ghost use Rattle.std.specs.Prelude.{slice_get, slice_index_or, string_bytes};
+ghost use Rattle.c_subset.specs.Trees as c;
+ghost use Rattle.c_text.specs.Functions.{prototype_text};
 ghost use Rattle.c_text.specs.Labels.{labels_of};
 ghost use Rattle.c_file.specs.Changing.{only_reads};
 ghost use Rattle.c_file.specs.Comments.{said_of};
 ghost use Rattle.c_file.specs.Made.{AreUses, IsMade, IsOrderOf, functions_of};
-ghost use Rattle.c_file.specs.Order.{AreBelow};
+ghost use Rattle.c_file.specs.Order.{AreBelow, declared_in};
 ghost use Rattle.c_file.specs.Reached.{is_written};
 ghost use Rattle.c_file.specs.Source as spec;
 ghost use Rattle.c_file.specs.Uses.{is_wide};
@@ -188,7 +190,6 @@ fn print_wide(out: &mut String, chart: &str, wide: bool) -> Result<(), AllocErro
 }
 
 /// Appends the declaration of a function.
-#[tactic(auto, unfolding(crate::specs::Source::declared_text))]
 fn print_declared(
     out: &mut String,
     made: &Made<'_>,
@@ -198,8 +199,10 @@ fn print_declared(
     requires is { IsMade made.now }
     requires uses { AreUses (labels_of made.now.labels) (functions_of made.now) uses.now }
     requires within { number < length (functions_of made.now) }
-    ensures { OnOk result (string_bytes out.new ≡ string_bytes out.old ++ spec.declared_text
-        (labels_of made.now.labels) uses.now.changing.items (functions_of made.now) number) }
+    ensures { OnOk result ((g : c.Function) → slice_get (functions_of made.now) number ≡ Some g
+        → string_bytes out.new ≡ string_bytes out.old ++ prototype_text
+        (labels_of made.now.labels) number (only_reads uses.now.changing.items number) g.result
+        g.parameters) }
 {
     let reads = only_reads(made, uses, number);
     let function = made.function(number);
@@ -215,25 +218,21 @@ fn print_declared(
     Ok(())
 }
 
-/// Appends the declarations of functions under a blank line, where there are any.
-fn print_declarations(
+/// Appends the declaration of the function that has a number in the file.
+fn print_declaration(
     out: &mut String,
     made: &Made<'_>,
     uses: &Uses,
-    numbers: &[u32],
+    number: u32,
 ) -> Result<(), AllocError>
     requires is { IsMade made.now }
     requires uses { AreUses (labels_of made.now.labels) (functions_of made.now) uses.now }
-    requires within { AreBelow (length (functions_of made.now)) numbers.now }
-    ensures { OnOk result (string_bytes out.new ≡ string_bytes out.old
-        ++ spec.declarations_text (labels_of made.now.labels) uses.now.changing.items
-        (functions_of made.now) numbers.now) }
+    requires within { number < length (functions_of made.now) }
+    ensures { OnOk result (string_bytes out.new ≡ string_bytes out.old ++ spec.declared_text
+        (labels_of made.now.labels) uses.now.changing.items (functions_of made.now) number) }
 {
-    if numbers.is_empty() {
-        return Ok(());
-    }
-    out.push_str("\n")?;
-    print_each_declared(out, made, uses, numbers)
+    print_declared(out, made, uses, number)?;
+    Ok(())
 }
 
 /// Appends the declarations of functions.
@@ -251,13 +250,54 @@ fn print_each_declared(
         (functions_of made.now) numbers.now) }
 {
     for number in numbers {
-        print_declared(out, made, uses, *number)?;
+        print_declaration(out, made, uses, *number)?;
     }
     Ok(())
 }
 
+/// Appends the declarations of functions under a blank line, where there are any.
+fn print_under_blank(
+    out: &mut String,
+    made: &Made<'_>,
+    uses: &Uses,
+    numbers: &[u32],
+) -> Result<(), AllocError>
+    requires is { IsMade made.now }
+    requires uses { AreUses (labels_of made.now.labels) (functions_of made.now) uses.now }
+    requires within { AreBelow (length (functions_of made.now)) numbers.now }
+    ensures { OnOk result (string_bytes out.new ≡ string_bytes out.old
+        ++ spec.declarations_text (labels_of made.now.labels) uses.now.changing.items
+        (functions_of made.now) numbers.now) }
+{
+    if numbers.is_empty() {
+        return Ok(());
+    }
+    out.push_str("\n")?;
+    print_each_declared(out, made, uses, numbers)?;
+    Ok(())
+}
+
+/// Appends the declarations of the functions that are called before they stand.
+fn print_declarations(
+    out: &mut String,
+    made: &Made<'_>,
+    uses: &Uses,
+    order: &Order,
+) -> Result<(), AllocError>
+    requires is { IsMade made.now }
+    requires uses { AreUses (labels_of made.now.labels) (functions_of made.now) uses.now }
+    requires order { IsOrderOf (labels_of made.now.labels) (functions_of made.now)
+        uses.now.reached.items order.now }
+    ensures { OnOk result (string_bytes out.new ≡ string_bytes out.old
+        ++ spec.declarations_text (labels_of made.now.labels) uses.now.changing.items
+        (functions_of made.now) (declared_in (labels_of made.now.labels) (functions_of made.now)
+        order.now.functions.items)) }
+{
+    print_under_blank(out, made, uses, &order.declared)?;
+    Ok(())
+}
+
 /// Appends a function under its comment.
-#[tactic(auto, unfolding(crate::specs::Source::commented_text))]
 fn print_commented(
     alloc: Global,
     out: &mut String,
@@ -268,14 +308,33 @@ fn print_commented(
     requires is { IsMade made.now }
     requires uses { AreUses (labels_of made.now.labels) (functions_of made.now) uses.now }
     requires within { number < length (functions_of made.now) }
-    ensures { OnOk result (string_bytes out.new ≡ string_bytes out.old ++ spec.commented_text
-        (labels_of made.now.labels) (said_of made.now.said) uses.now.changing.items
-        (functions_of made.now) number) }
+    ensures { OnOk result ((g : c.Function) → slice_get (functions_of made.now) number ≡ Some g
+        → string_bytes out.new ≡ string_bytes out.old ++ spec.commented_text
+        (labels_of made.now.labels) (said_of made.now.said) uses.now.changing.items number g) }
 {
     print_comment(out, &made.said, number)?;
     let reads = only_reads(made, uses, number);
     let function = made.function(number);
     print_function(alloc, out, &made.labels, number, reads, function)?;
+    Ok(())
+}
+
+/// Appends the function that has a number in the file.
+fn print_numbered(
+    alloc: Global,
+    out: &mut String,
+    made: &Made<'_>,
+    uses: &Uses,
+    number: u32,
+) -> Result<(), Memory>
+    requires is { IsMade made.now }
+    requires uses { AreUses (labels_of made.now.labels) (functions_of made.now) uses.now }
+    requires within { number < length (functions_of made.now) }
+    ensures { OnOk result (string_bytes out.new ≡ string_bytes out.old ++ spec.numbered_text
+        (labels_of made.now.labels) (said_of made.now.said) uses.now.changing.items
+        (functions_of made.now) number) }
+{
+    print_commented(alloc, out, made, uses, number)?;
     Ok(())
 }
 
@@ -295,7 +354,7 @@ fn print_functions(
         uses.now.changing.items (functions_of made.now) numbers.now) }
 {
     for number in numbers {
-        print_commented(alloc, out, made, uses, *number)?;
+        print_numbered(alloc, out, made, uses, *number)?;
     }
     Ok(())
 }
@@ -322,7 +381,7 @@ fn print_front(
     print_opening(alloc, out, made.name, identity)?;
     print_fits(alloc, out, made, calls, identity)?;
     print_wide(out, made.name, any_wide(made, uses))?;
-    print_declarations(out, made, uses, &order.declared)
+    print_declarations(out, made, uses, order)
 }
 
 /// Appends a source of the functions that are written.

@@ -154,7 +154,7 @@ one_more fs new gs n made so_far is new_is = record {
       (ap (λ (fs : List declared.Function). slice_get fs n) (sym new_is) ∙ there)) (is g at));
 }
 
-all_so_far : (fs : List declared.Function) (gs : List Function) (n : ℕ) → n ≡ length gs → AreSoFar fs gs n
+pub all_so_far : (fs : List declared.Function) (gs : List Function) (n : ℕ) → n ≡ length gs → AreSoFar fs gs n
     → AreFunctions fs gs
 all_so_far fs gs n all so_far = record {
   count = so_far.count ∙ all;

@@ -1,10 +1,16 @@
-use Rattle.std.proofs.Common.{refl, arith}
+use Rattle.std.proofs.Common.{ℕ, ◌<◌, length, refl, arith}
 use Rattle.std.proofs.lemmas.List.{at_drop_more}
+use Rattle.std.proofs.lemmas.List.Elements.{All-get_or}
 use Rattle.c_text.specs.Labels.{labels_of}
 use Rattle.c_text.proofs.LoopLemmas.{more_printed, all_printed}
 use Rattle.c_file.specs.Made.{functions_of}
 use Rattle.c_file.specs.Source.{each_declared}
 use Rattle.c_file.proofs.printing.print_each_declared.Goals as goal
+
+pub print_declaration-requires-clause-within : goal.print_declaration-requires-clause-within
+print_declaration-requires-clause-within c =
+    All-get_or (λ (f : ℕ). f < length (functions_of c.args.made.now)) c.args.numbers.now c.loop-number.number-index _
+    (omega arith) c.requires.within
 
 pub loop-number-preserved : goal.loop-number-preserved
 loop-number-preserved c =
@@ -13,7 +19,7 @@ loop-number-preserved c =
     (each_declared (labels_of c.args.made.now.labels) c.args.uses.now.changing.items
     (functions_of c.args.made.now))
     c.args.numbers.now c.loop-number.number-index _ (omega arith))
-    c.in_ok-print_declared.ensures c.loop-number.invariant
+    c.in_ok-print_declaration.ensures c.loop-number.invariant
 
 pub returns : goal.returns
 returns c =

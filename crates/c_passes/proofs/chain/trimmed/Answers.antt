@@ -1,6 +1,9 @@
+use Rattle.std.proofs.Common.{◌≡◌, ◌∙◌, List, refl, sym, subst, map-id}
+use Rattle.std.proofs.lemmas.Iterator.Adapters.{YieldsList-from_vec}
+use Rattle.std.proofs.lemmas.Iterator.Consumers.{YieldsList-end}
+use Rattle.c_subset.specs.declared.trees.Function.{Function}
 use Rattle.c_unread.specs.Unread.{trimmed_of}
-use Rattle.c_passes.proofs.FunctionLemmas.{none_turned, one_more_turned, all_mapped}
-use Rattle.std.proofs.Common.{refl}
+use Rattle.c_passes.proofs.FunctionLemmas.{AreTurnedSoFar, none_turned, one_more_turned, all_mapped}
 use Rattle.c_passes.proofs.chain.trimmed.Goals as goal
 
 pub loop-function-init : goal.loop-function-init
@@ -12,4 +15,11 @@ loop-function-preserved c =
     c.in_ok-push.ensures.items
 
 pub returns : goal.returns
-returns c = ?
+returns c =
+    let end =
+    YieldsList-end (YieldsList-from_vec c.args.functions.items cc cc) c.loop-function.yielded _
+    c.loop-function.yielded_by _ _ c.in-None.is c.next.ensures.steps in
+    let all : c.loop-function.yielded ≡ c.args.functions.items = sym (map-id c.loop-function.yielded) ∙ end.0 in
+    all_mapped trimmed_of c.args.functions.items c.loop-function.made.items
+    (subst (λ (taken : List Function). AreTurnedSoFar (λ i g. trimmed_of g) taken c.loop-function.made.items) all
+    c.loop-function.invariant)

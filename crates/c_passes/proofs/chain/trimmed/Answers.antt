@@ -17,8 +17,8 @@ loop-function-preserved c =
 pub returns : goal.returns
 returns c =
     let end =
-    YieldsList-end (YieldsList-from_vec c.args.functions.items cc cc) c.loop-function.yielded _
-    c.loop-function.yielded_by _ _ c.in-None.is c.next.ensures.steps in
+    YieldsList-end (YieldsList-from_vec {s = c.into_iter-function-iterator.result} c.args.functions.items (cc) (cc)) c.loop-function.yielded c.loop-function.function-iterator
+    c.loop-function.yielded_by c.next.result c.next.new.self c.in-None.is c.next.ensures.steps in
     let all : c.loop-function.yielded ≡ c.args.functions.items = sym (map-id c.loop-function.yielded) ∙ end.0 in
     all_mapped trimmed_of c.args.functions.items c.loop-function.made.items
     (subst (λ (taken : List Function). AreTurnedSoFar (λ i g. trimmed_of g) taken c.loop-function.made.items) all

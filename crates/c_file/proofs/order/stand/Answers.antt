@@ -10,4 +10,12 @@ use Rattle.c_file.proofs.OrderLemmas.{calls_are, stands_now}
 use Rattle.c_file.proofs.order.stand.Goals as goal
 
 pub returns : goal.returns
-returns c = ?
+returns c =
+    let functions = functions_of c.args.made.now in
+    stands_now functions c.args.number _ _ _ _ c.deref.result.now ? refl c.mark_early.ensures.size
+    (calls_are functions c.args.number no_function c.requires.within c.deref.result.now
+    (λ g there. c.deref.ensures.value ∙ c.in_ok-add_lines.ensures
+    ∙ ap (λ (xs : List FunctionCall). xs ++ _) c.new-calls.ensures.items
+    ∙ ap (λ (ls : List Line). calls_in c.args.number (lines_in ls)) c.items.ensures
+    ∙ ap (calls_in c.args.number) (c.function.ensures g there).lines))
+    c.mark_early.ensures.flags

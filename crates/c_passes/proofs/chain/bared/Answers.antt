@@ -10,13 +10,13 @@ loop-function-init c = no_bare_so_far _ _ c.new-made.ensures.items
 
 pub loop-function-preserved : goal.loop-function-preserved
 loop-function-preserved c =
-    one_more_bare _ _ _ _ _ _ _ c.loop-function.invariant c.len-number.ensures c.in_ok-bare_function.ensures
-    c.in_ok-push.ensures.items
+    one_more_bare _ _ _ _ _ _ _ c.loop-function.invariant (c.len-number.ensures ∙ c.loop-function.made.ok.0)
+    c.in_ok-bare_function.ensures c.in_ok-push.ensures.items
 
 pub returns : goal.returns
 returns c =
     let end =
-    YieldsList-end (YieldsList-from_vec c.args.functions.items cc cc) c.loop-function.yielded _
+    YieldsList-end (YieldsList-from_vec c.args.functions.items (cc) (cc)) c.loop-function.yielded _
     c.loop-function.yielded_by _ _ c.in-None.is c.next.ensures.steps in
     let all : c.loop-function.yielded ≡ c.args.functions.items = sym (map-id c.loop-function.yielded) ∙ end.0 in
     all_bare c.args.flags.now c.args.functions.items c.loop-function.made.items

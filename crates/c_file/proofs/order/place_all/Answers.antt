@@ -8,11 +8,11 @@ loop-function-preserved c = c.in_ok-place.ensures.is
 pub loop-number-init : goal.loop-number-init
 loop-number-init c = none_first _ _ _ c.loop-function.invariant
 
-pub place-in-loop-number-requires : goal.place-in-loop-number-requires
-place-in-loop-number-requires c = c.loop-number.invariant.is
+pub place-requires-in-loop-number : goal.place-requires-in-loop-number
+place-requires-in-loop-number c = c.loop-number.invariant.is
 
 pub loop-number-preserved : goal.loop-number-preserved
-loop-number-preserved c = one_first _ _ _ _ _ _ c.loop-number.invariant c.in_ok-place-in-loop-number.ensures
+loop-number-preserved c = one_first _ _ _ _ _ _ c.loop-number.invariant c.in_ok-place-2.ensures
 
 pub returns : goal.returns
 returns c =

@@ -1,6 +1,6 @@
-//! In which order the functions of a source stand: where no function calls itself, each stands behind
-//! those that it calls. The order is searched for; whatever was found, each function that is written
-//! stands there once.
+//! In which order the functions of a source stand: where no function calls itself, each stands
+//! behind those that it calls. The order is searched for; whatever was found, each function that is
+//! written stands there once.
 ghost use Rattle.std.specs.Prelude.{◌≡◌, ◌<◌, ◌||◌, ◌&&◌, ◌++◌, ◌∷◌, [], not, ℕ, IfOk, OnOk, false};
 ghost use Rattle.std.specs.Prelude.{if◌then◌else◌, length, replicate, slice_index_or};
 ghost use Rattle.c_text.specs.Labels.{labels_of};
@@ -51,8 +51,8 @@ fn place(
     Ok(())
 }
 
-/// Puts all functions that are reached at the end, of which there are `count`: those that were found,
-/// in their order, then all others.
+/// Puts all functions that are reached at the end; there are `count` functions. Those that were
+/// found come first, in their order, then all others.
 fn place_all(
     reached: &[bool],
     placed: &mut [bool],
@@ -73,8 +73,8 @@ fn place_all(
     Ok(())
 }
 
-/// The functions that are reached, of which there are `count`: those that were found, in their order,
-/// then all others.
+/// The functions that are reached, of `count`: those that were found, in their order, then all
+/// others.
 fn completed(
     alloc: Global,
     reached: &[bool],

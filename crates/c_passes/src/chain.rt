@@ -80,8 +80,8 @@ fn bared(alloc: Global, flags: &[bool], functions: Vec<Function>) -> Result<Vec<
 }
 
 /// The functions of the C of code, by number: first come those of the procedures, each a loop where
-/// it may be, then those after them. Those that need no parameter have none, but the reaction, which
-/// is called from outside.
+/// it may be, then those after them. Those that are found to need no parameter have none; the
+/// reaction, which is called from outside, keeps its event.
 ///
 /// All functions are in memory at once, and one of them as a tree. `Memory` only where memory was
 /// refused.

@@ -1,5 +1,5 @@
 -- What both files are made from, and what is known of the functions of the source.
-use Rattle.std.specs.Prelude.{◌≡◌, ℕ, ◌||◌, List, [], ◌∷◌, ◌++◌, map}
+use Rattle.std.specs.Prelude.{◌≡◌, ℕ, ◌||◌, Bool, List, [], ◌∷◌, ◌++◌, map}
 use Rattle.code_language.specs.Code.{code_of}
 use Rattle.c_subset.specs.Trees.{Function}
 use Rattle.c_subset.specs.Lines.{lines_of}

@@ -1,8 +1,8 @@
-//! In which order the functions of a source stand: where no function calls itself, each stands behind
-//! those that it calls. The order is searched for; whatever was found, each function that is written
-//! stands there once.
+//! In which order the functions of a source stand: where no function calls itself, each stands
+//! behind those that it calls. The order is searched for; whatever was found, each function that is
+//! written stands there once.
 ghost use Rattle.std.specs.Prelude.{◌≡◌, ◌<◌, ◌||◌, ◌&&◌, ◌++◌, ◌∷◌, [], not, ℕ, IfOk, OnOk, false};
-ghost use Rattle.std.specs.Prelude.{if◌then◌else◌, length, slice_index_or};
+ghost use Rattle.std.specs.Prelude.{if◌then◌else◌, length, replicate, slice_index_or};
 ghost use Rattle.c_text.specs.Labels.{labels_of};
 ghost use Rattle.c_file.specs.Made.{AreUses, IsMade, IsOrderOf, functions_of};
 ghost use Rattle.c_file.specs.Order as spec;
@@ -51,8 +51,30 @@ fn place(
     Ok(())
 }
 
-/// The functions that are reached, of which there are `count`: those that were found, in their order,
-/// then all others.
+/// Puts all functions that are reached at the end; there are `count` functions. Those that were
+/// found come first, in their order, then all others.
+fn place_all(
+    reached: &[bool],
+    placed: &mut [bool],
+    order: &mut Vec<u32>,
+    count: u32,
+    found: &[u32],
+) -> Result<(), Memory>
+    requires count { count ≡ length reached.now }
+    requires placed { IsPlaced reached.now placed.old order.old.items }
+    ensures { OnOk result (spec.IsOrder reached.now order.new.items) }
+{
+    for function in found {
+        place(reached, placed, order, *function)?;
+    }
+    for number in 0..count {
+        place(reached, placed, order, number)?;
+    }
+    Ok(())
+}
+
+/// The functions that are reached, of `count`: those that were found, in their order, then all
+/// others.
 fn completed(
     alloc: Global,
     reached: &[bool],
@@ -64,12 +86,7 @@ fn completed(
 {
     let mut placed = vec![in alloc; false; reached.len()]?;
     let mut order = Vec::new(alloc);
-    for function in found {
-        place(reached, &mut placed, &mut order, *function)?;
-    }
-    for number in 0..count {
-        place(reached, &mut placed, &mut order, number)?;
-    }
+    place_all(reached, &mut placed, &mut order, count, found)?;
     Ok(order)
 }
 
@@ -111,6 +128,26 @@ fn stand(
     Ok(())
 }
 
+/// The functions stand one after the other: sets the flags of those that are called before.
+fn stand_all(
+    alloc: Global,
+    made: &Made<'_>,
+    stands: &mut [bool],
+    early: &mut [bool],
+    order: &[u32],
+) -> Result<(), Memory>
+    requires is { IsMade made.now }
+    requires within { spec.AreBelow (length (functions_of made.now)) order.now }
+    requires stands { stands.old ≡ replicate (length (functions_of made.now)) false }
+    requires early { early.old ≡ replicate (length (functions_of made.now)) false }
+    ensures { OnOk result (AreEarly (functions_of made.now) order.now early.new) }
+{
+    for number in order {
+        stand(alloc, made, stands, early, *number)?;
+    }
+    Ok(())
+}
+
 /// Of each function whether it is called before it stands in this order.
 fn early_flags(alloc: Global, made: &Made<'_>, order: &[u32]) -> Result<Vec<bool>, Memory>
     requires is { IsMade made.now }
@@ -120,9 +157,7 @@ fn early_flags(alloc: Global, made: &Made<'_>, order: &[u32]) -> Result<Vec<bool
     let count = made.count() as usize;
     let mut stands = vec![in alloc; false; count]?;
     let mut early = vec![in alloc; false; count]?;
-    for number in order {
-        stand(alloc, made, &mut stands, &mut early, *number)?;
-    }
+    stand_all(alloc, made, &mut stands, &mut early, order)?;
     Ok(early)
 }
 

@@ -11,11 +11,11 @@ returns-in-Set c =
 
 pub returns-in-Call : goal.returns-in-Call
 returns-in-Call c =
-    c.read_local.ensures ∙ ap (λ (x : Line). local_set (lines_in c.args.lines.now) (line_of x)) (sym c.in-Call.is)
+    c.read_local-in-Call.ensures ∙ ap (λ (x : Line). local_set (lines_in c.args.lines.now) (line_of x)) (sym c.in-Call.is)
 
 pub returns-then-has_cases : goal.returns-then-has_cases
 returns-then-has_cases c =
-    c.read_local.ensures
+    c.read_local-then-has_cases.ensures
     ∙ ap (λ (b : Bool). cond b (read_local (lines_in c.args.lines.now) c.in-Select.of c.in-Select.number) None)
     (sym c.if-has_cases.true ∙ c.has_cases.ensures ∙ ap has_cases c.items.ensures)
     ∙ ap (λ (x : Line). local_set (lines_in c.args.lines.now) (line_of x)) (sym c.in-Select.is)

@@ -1,6 +1,6 @@
 -- What tests and stores of the C tell.
-use Rattle.std.specs.Prelude.{◌==◌, ◌^◌, not, ℕ, zero, suc, ℤ, pos, negsuc, nat_lt, Bool, true, false, Option, Some, None}
-use Rattle.std.specs.Prelude.{if◌then◌else◌}
+use Rattle.std.specs.Prelude.{◌==◌, ◌-◌, ◌^◌, not, ℕ, zero, suc, ℤ, pos, negsuc, nat_lt, Bool, true, false, List, Option}
+use Rattle.std.specs.Prelude.{Some, None, if◌then◌else◌}
 use Rattle.c_subset.specs.declared.trees.Width.{Width}
 use Rattle.c_subset.specs.declared.trees.Width.TheVariants.{W8, W16, W32, W64, W128}
 use Rattle.c_subset.specs.declared.trees.CType.{CType}
@@ -13,8 +13,9 @@ use Rattle.c_subset.specs.declared.trees.Comparison.TheVariants.{IsAtLeast}
 use Rattle.c_subset.specs.Trees.{CExpr, Const, Field, Element, Local, Cast, Minus, Bang, Calc, Divide, Bits, Compare}
 use Rattle.c_subset.specs.Trees.{Both, Either, Choose}
 use Rattle.c_subset.specs.Meaning.{bits, is_true}
-use Rattle.c_facts.specs.Known.{Known, Never, Rows, Row}
-use Rattle.c_facts.specs.Facts.{Written, agrees, width_at, narrowed, joined, stored_rows}
+use Rattle.c_facts.specs.Known.{Place, Known, Never, Rows, Row}
+use Rattle.c_facts.specs.Facts.{Written, agrees, width_at, is_numbered, narrowed, joined, stored_rows, has_place}
+use Rattle.c_facts.specs.Facts.{is_covered}
 use Rattle.c_facts.specs.declared.known.Place.TheVariants as places
 use Rattle.c_facts.specs.declared.known.Written.TheVariants as writes
 -- a number of an unsigned type
@@ -180,36 +181,69 @@ abbrev pub mask_written : Bitwise → ℕ → Written
 mask_written BitAnd m = writes.KeepsBits m
 mask_written BitOr m = writes.SetsBits m
 
--- bits of a field, by the field to which they go, the field and the mask
+-- bits of a field that has a number of that width, by the field to which they go, the field and the mask
 abbrev pub bits_written : Width → ℕ → Bitwise → Option ℕ → Option Constant → Written
 bits_written w f op None c = writes.Other
 bits_written w f op (Some g) None = writes.Other
 bits_written w f op (Some g) (Some c) =
     if f == g then (if bits c.width == bits w then mask_written op c.number else writes.Other) else writes.Other
 
--- what `m->f = e;` puts into the field, which has that width
-abbrev pub written_in : Width → ℕ → CExpr → Written
-written_in w f (Const t z) = number_written w (unsigned_of t z)
-written_in w f (Field g) = writes.Other
-written_in w f (Element a e) = writes.Other
-written_in w f (Local t k) = writes.Other
-written_in w f (Cast t e) = writes.Other
-written_in w f (Minus e) = writes.Other
-written_in w f (Bang e) = writes.Other
-written_in w f (Calc op a b) = writes.Other
-written_in w f (Divide op a b) = writes.Other
-written_in w f (Bits op a b) = bits_written w f op (field_in a) (constant_of b)
-written_in w f (Compare op a b) = writes.Other
-written_in w f (Both a b) = writes.Other
-written_in w f (Either a b) = writes.Other
-written_in w f (Choose t c a b) = writes.Other
+-- what `m->f = e;` puts into a field that has that width, and a number or maybe none
+abbrev pub written_in : Bool → Width → ℕ → CExpr → Written
+written_in numbered w f (Const t z) = number_written w (unsigned_of t z)
+written_in numbered w f (Field g) = writes.Other
+written_in numbered w f (Element a e) = writes.Other
+written_in numbered w f (Local t k) = writes.Other
+written_in numbered w f (Cast t e) = writes.Other
+written_in numbered w f (Minus e) = writes.Other
+written_in numbered w f (Bang e) = writes.Other
+written_in numbered w f (Calc op a b) = writes.Other
+written_in numbered w f (Divide op a b) = writes.Other
+written_in numbered w f (Bits op a b) =
+    if numbered then bits_written w f op (field_in a) (constant_of b) else writes.Other
+written_in numbered w f (Compare op a b) = writes.Other
+written_in numbered w f (Both a b) = writes.Other
+written_in numbered w f (Either a b) = writes.Other
+written_in numbered w f (Choose t c a b) = writes.Other
 
 -- the same, where nothing may be known of the field
-abbrev pub written : Option Width → ℕ → CExpr → Written
-written None f e = writes.Other
-written (Some w) f e = written_in w f e
+abbrev pub written_by : Bool → Option Width → ℕ → CExpr → Written
+written_by numbered None f e = writes.Other
+written_by numbered (Some w) f e = written_in numbered w f e
+
+-- what `m->f = e;` puts into the field by what is known
+abbrev pub written : ℕ → CExpr → List Row → Written
+written f e rs = written_by (is_numbered f rs) (width_at f rs) f e
 
 -- after `m->f = e;`
 abbrev pub stored : ℕ → CExpr → Known → Known
 stored f e Never = Never
-stored f e (Rows rs) = Rows (stored_rows f (written (width_at f rs) f e) rs)
+stored f e (Rows rs) = Rows (stored_rows f (written f e rs) rs)
+
+-- which of so many bits alone isn't set in a mask of 32 bits, if it is one of them
+abbrev pub single_gap : ℕ → ℕ → Option ℕ
+single_gap zero mask = None
+single_gap (suc b) mask = if mask == 2 ^ 32 - 1 - 2 ^ b then Some b else single_gap b mask
+
+-- the bit of the field is covered
+abbrev pub bit_covered : List Place → ℕ → Option ℕ → Bool
+bit_covered ps f None = false
+bit_covered ps f (Some b) = is_covered ps (places.Bit f b)
+
+-- what is written into the field changes only these places
+abbrev pub may_write : List Place → Width → ℕ → Written → Bool
+may_write ps w f writes.Other = false
+may_write ps w f (writes.Number n) = false
+may_write ps w f (writes.SetsBits m) = bit_covered ps f (single_bit 32 m)
+may_write ps w f (writes.KeepsBits m) = if bits w == 32 then bit_covered ps f (single_gap 32 m) else false
+
+-- the same, where nothing may be known of the field
+abbrev pub may_write_by : List Place → Option Width → ℕ → Written → Bool
+may_write_by ps None f e = false
+may_write_by ps (Some w) f e = may_write ps w f e
+
+-- `m->f = e;` changes only these places
+abbrev pub may_store : List Place → ℕ → CExpr → Known → Bool
+may_store ps f e Never = true
+may_store ps f e (Rows rs) =
+    if has_place ps (places.Field f) then true else may_write_by ps (width_at f rs) f (written f e rs)

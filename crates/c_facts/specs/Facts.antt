@@ -74,6 +74,17 @@ abbrev pub is_width : Width → Option Width → Bool
 is_width w None = false
 is_width w (Some v) = bits v == bits w
 
+-- some set of numbers is known of a place
+abbrev pub is_known : Sets → Bool
+is_known Anything = false
+is_known (OneOf on off) = true
+
+-- the field has a number: some set of numbers is known of it, or of a bit of it
+abbrev pub is_numbered : ℕ → List Row → Bool
+is_numbered f [] = false
+is_numbered f (r ∷ rs) =
+    if field_of r.place == f then (if is_known r.sets then true else is_numbered f rs) else is_numbered f rs
+
 -- what is known of a place
 abbrev pub sets_at : Place → List Row → Sets
 sets_at p [] = Anything
@@ -320,13 +331,27 @@ module _ (touched : Place → Bool) where
 
 -- ---- sets of places
 
--- a place is in the set, or its field
-abbrev pub is_touched : List Place → Place → Bool
-is_touched [] p = false
-is_touched (places.Field f ∷ ps) p = if f == field_of p then true else is_touched ps p
-is_touched (places.Bit f b ∷ ps) p = if same_place (places.Bit f b) p then true else is_touched ps p
+-- the places have something in common: one of them is the other one, or its field
+abbrev pub overlaps : Place → Place → Bool
+overlaps (places.Field f) q = f == field_of q
+overlaps (places.Bit f a) (places.Field g) = f == g
+overlaps (places.Bit f a) (places.Bit g b) = if f == g then a == b else false
 
--- each place that is in the first set is in the second one
-abbrev pub all_touched : List Place → List Place → Bool
-all_touched [] ps = true
-all_touched (p ∷ qs) ps = if is_touched ps p then all_touched qs ps else false
+-- a place may change where these may
+abbrev pub is_touched : List Place → Place → Bool
+is_touched [] q = false
+is_touched (p ∷ ps) q = if overlaps p q then true else is_touched ps q
+
+-- the place is one of these
+abbrev pub has_place : List Place → Place → Bool
+has_place [] q = false
+has_place (p ∷ ps) q = if same_place p q then true else has_place ps q
+
+-- the place is one of these, or its field is
+abbrev pub is_covered : List Place → Place → Bool
+is_covered ps q = if has_place ps (places.Field (field_of q)) then true else has_place ps q
+
+-- each of the first ones is covered by the second ones
+abbrev pub all_covered : List Place → List Place → Bool
+all_covered [] ps = true
+all_covered (p ∷ qs) ps = if is_covered ps p then all_covered qs ps else false

@@ -77,27 +77,27 @@ is_in z (x ∷ xs) = if x == z then true else is_in z xs
 abbrev pub object : Width → Option ℤ → Object
 object w v = record { type = Unsigned w; value = v }
 
--- the field is one of the type
+-- the field has the unsigned type of that width
 pub record IsThere (w : Width) (s : Store) (f : ℕ) : Type 0 where
   pub value : Option ℤ
   pub there : slice_get s.fields f ≡ Some (object w value)
 
--- the field of the place has a number of the type, and the number at the place is one of these
-pub record HasOne (w : Width) (s : Store) (p : Place) (xs : List ℕ) : Type 0 where
+-- the number at the place is one of these
+pub record HasOne (s : Store) (p : Place) (xs : List ℕ) : Type 0 where
   pub number : ℕ
-  pub there : slice_get s.fields (field_of p) ≡ Some (object w (Some (pos number)))
-  pub small : nat_lt number (2 ^ bits w) ≡ true
-  pub among : is_in (number_in p number) xs ≡ true
+  pub there : number_at s p ≡ Some number
+  pub among : is_in number xs ≡ true
 
--- what is known of a place holds
-abbrev pub Has : Width → Store → Place → Home → Sets → Type 0
-Has w s p h Anything = IsThere w s (field_of p)
-Has w s p h (OneOf on off) = HasOne w s p (if is_at s h then on else off)
+-- what is known of the number at a place holds, where its home has its number, or where it hasn't
+abbrev pub HasSets : Store → Place → Bool → Sets → Type 0
+HasSets s p on_home Anything = Unit {0}
+HasSets s p on_home (OneOf on off) = HasOne s p (if on_home then on else off)
 
 -- each of these holds
 abbrev pub HoldRows : Store → List Row → Type 0
 HoldRows s [] = Unit {0}
-HoldRows s (r ∷ rs) = Has r.width s r.place r.home r.sets × HoldRows s rs
+HoldRows s (r ∷ rs) =
+    IsThere r.width s (field_of r.place) × (HasSets s r.place (is_at s r.home) r.sets × HoldRows s rs)
 
 -- what is known holds
 abbrev pub Hold : Store → Known → Type 0

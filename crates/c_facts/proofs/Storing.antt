@@ -28,7 +28,7 @@ use Rattle.c_facts.specs.Asking.{written_in, written_by, written, stored}
 use Rattle.c_facts.proofs.NumberSets.{same}
 use Rattle.c_facts.proofs.PlaceLemmas.{is-width, width-there, number-there, IsWord, is-word, there-type}
 use Rattle.c_facts.proofs.ValueLemmas.{unsigned, below, is-below, same-gives, own-stays, combined-unsigned, field-is}
-use Rattle.c_facts.proofs.ValueLemmas.{bits-mean, bits-small, unsigned-is, constant-is}
+use Rattle.c_facts.proofs.ValueLemmas.{bits-mean, const-means, bits-small, unsigned-is, constant-is}
 use Rattle.c_facts.proofs.Changing.{IsChange, rows-stored}
 
 -- ---- fields after a store
@@ -106,7 +106,6 @@ module _ (int w : Width) (s : Store) (l : Locals) (f : ℕ) (x : CValue) where
   Given e = with_meaning (meaning int s l e) (λ y. converted (Unsigned w) y.value) ≡ Gives x
 
   number-puts : (t : CType) (z : ℤ) → Given (Const t z) → Puts w s f x (number_written w (unsigned_of t z))
-  unfolding meaning
   number-puts t z g = at (unsigned_of t z) refl
     where
       at : (o : Option Constant) → unsigned_of t z ≡ o → Puts w s f x (number_written w o)
@@ -129,14 +128,13 @@ module _ (int w : Width) (s : Store) (l : Locals) (f : ℕ) (x : CValue) where
               let once : converted (Unsigned w) (pos c.number) ≡ gives (Unsigned w) (pos c.number) =
               own-stays w c.number fits in
               let value : bring (meaning int s l (Const (Unsigned w) (pos c.number)))
-              ≡ gives (Unsigned w) (pos c.number) = ap bring once ∙ once in
+              ≡ gives (Unsigned w) (pos c.number) = ap bring (const-means int w s l c.number fits) ∙ once in
               let is-x : gives (Unsigned w) (pos c.number) ≡ Gives x =
               sym value ∙ sym (ap (λ (e : CExpr). bring (meaning int s l e)) expr) ∙ g in
               (sym (same-gives (unsigned w c.number) x is-x), fits)
 
   bits-put : (op : Bitwise) (a b : CExpr) → IsWord w s f → Given (Bits op a b)
       → Puts w s f x (bits_written w f op (field_in a) (constant_of b))
-  unfolding meaning
   bits-put op a b word g = at (field_in a) (constant_of b) refl refl
     where
       at : (i : Option ℕ) (o : Option Constant) → field_in a ≡ i → constant_of b ≡ o

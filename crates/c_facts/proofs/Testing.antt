@@ -16,7 +16,7 @@ use Rattle.c_subset.specs.Trees.{Both, Either, Choose}
 use Rattle.c_subset.specs.Meaning.{bits, fits_signed, CValue, Meaning, Gives, Wrong, with_meaning, gives, converted}
 use Rattle.c_subset.specs.Meaning.{bits_of, combined, compared, passes, truth, one_if, is_true, Object, read, Store}
 use Rattle.c_subset.specs.Meaning.{Locals, meaning}
-use Rattle.c_facts.specs.Known.{Place, Known, Hold, IsThere, field_of, number_in, number_at, object}
+use Rattle.c_facts.specs.Known.{Place, Known, Never, Hold, IsThere, field_of, number_in, number_at, object}
 use Rattle.c_facts.specs.declared.known.Place.TheVariants as places
 use Rattle.c_facts.specs.declared.known.Constant.{Constant}
 use Rattle.c_facts.specs.declared.known.Question.{Question}
@@ -26,7 +26,7 @@ use Rattle.c_facts.specs.Asking.{bits_question, question, equality, answered, se
 use Rattle.c_facts.proofs.NumberSets.{same}
 use Rattle.c_facts.proofs.PlaceLemmas.{is-width, IsWord, is-word, number-there}
 use Rattle.c_facts.proofs.ValueLemmas.{unsigned, below, is-below, same-gives, own-stays, compared-unsigned}
-use Rattle.c_facts.proofs.ValueLemmas.{bits-mean, combined-unsigned, true-one, came-out, equality-tells, field-is, constant-is, single-is}
+use Rattle.c_facts.proofs.ValueLemmas.{bits-mean, compare-means, combined-unsigned, true-one, came-out, equality-tells, field-is, constant-is, single-is}
 use Rattle.c_facts.proofs.Holding.{Tells, narrowed-hold, joined-holds-first, joined-holds-second}
 
 -- ---- a comparison of a field with a number
@@ -82,7 +82,6 @@ masked-tells : (int w : Width) (s : Store) (l : Locals) (op : Comparison) (eq wa
     → meaning int s l (Compare op (Bits BitAnd (Field f) (Const (Unsigned w) (pos (2 ^ b))))
     (Const (Unsigned w) (pos 0))) ≡ Gives x
     → is_true x.value ≡ way → agrees (agrees eq way) (nat_eq (bit_at n b) 0) ≡ true
-unfolding meaning
 masked-tells int w s l op eq way f n b x there fn fb kind m t =
     at (combined-unsigned int w BitAnd n (2 ^ b) fn fb)
   where
@@ -93,7 +92,9 @@ masked-tells int w s l op eq way f n b x there fn fb kind m t =
     whole o = with_meaning o (λ x. with_meaning (converted (Unsigned w) (pos 0)) (compared int op x))
 
     is : whole (combined int BitAnd (unsigned w n) (unsigned w (2 ^ b))) ≡ Gives x
-    is = sym (ap whole (bits-mean int w s l BitAnd f n (2 ^ b) there fb)) ∙ m
+    is =
+        sym (ap whole (bits-mean int w s l BitAnd f n (2 ^ b) there fb))
+        ∙ sym (compare-means int w s l op (Bits BitAnd (Field f) (Const (Unsigned w) (pos (2 ^ b)))) 0) ∙ m
 
     at : (combined int BitAnd (unsigned w n) (unsigned w (2 ^ b)) ≡ Wrong)
         ⊎ (combined int BitAnd (unsigned w n) (unsigned w (2 ^ b)) ≡ gives (Unsigned w) (pos (bit_and n (2 ^ b))))

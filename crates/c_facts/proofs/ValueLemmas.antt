@@ -122,7 +122,20 @@ bits-mean int w s l op f n m there fm =
     (λ x. with_meaning (converted (Unsigned w) (pos m)) (combined int op x))) there
     ∙ ap (λ (m : Meaning). with_meaning m (combined int op (unsigned w n))) (own-stays w m fm)
 
--- they give a number of the type
+-- a constant
+pub const-means : (int w : Width) (s : Store) (l : Locals) (c : ℕ) → c < 2 ^ bits w
+    → meaning int s l (Const (Unsigned w) (pos c)) ≡ gives (Unsigned w) (pos c)
+unfolding meaning
+const-means int w s l c small = own-stays w c small
+
+-- a comparison with a constant
+pub compare-means : (int w : Width) (s : Store) (l : Locals) (op : Comparison) (a : CExpr) (c : ℕ)
+    → meaning int s l (Compare op a (Const (Unsigned w) (pos c)))
+    ≡ with_meaning (meaning int s l a) (λ x. with_meaning (converted (Unsigned w) (pos c)) (compared int op x))
+unfolding meaning
+compare-means int w s l op a c = refl
+
+-- & and | give a number of the type
 pub bits-small : (w : Width) (op : Bitwise) (a b : ℕ) → a < 2 ^ bits w → b < 2 ^ bits w
     → bits_of op a b < 2 ^ bits w
 bits-small w BitAnd a b fa fb = let less = and_le_l a b in omega (arith, less, fa)

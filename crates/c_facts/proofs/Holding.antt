@@ -344,8 +344,7 @@ rows-second s (x ∷ xs) (y ∷ ys) h = at (same_row x y) refl (rows-second s xs
         subst (λ (w : Width). IsThere w s (field_of x.place)) (sym is.1)
         (subst (λ (p : Place). IsThere y.width s (field_of p)) (sym is.0) h.0) in
         let has : HasSets s x.place (is_at s y.home) y.sets =
-        subst (λ (p : Place). HasSets s p (is_at s y.home) y.sets) (sym is.0) h.1.0 in
-        (
+        subst (λ (p : Place). HasSets s p (is_at s y.home) y.sets) (sym is.0) h.1.0 in (
           there,
           (
             joined-second s x.place (is_at s y.home) (is_at s x.home) (same_home x.home y.home) x.sets y.sets
@@ -401,8 +400,7 @@ covers-rows s (x ∷ xs) (y ∷ ys) e h =
         subst (λ (w : Width). IsThere w s (field_of y.place)) is.1
         (subst (λ (p : Place). IsThere x.width s (field_of p)) is.0 h.0) in
         let has : HasSets s y.place (is_at s x.home) x.sets =
-        subst (λ (p : Place). HasSets s p (is_at s x.home) x.sets) is.0 h.1.0 in
-        (
+        subst (λ (p : Place). HasSets s p (is_at s x.home) x.sets) is.0 h.1.0 in (
           there,
           (
             covers-has s y.place (is_at s x.home) (is_at s y.home) same x.sets y.sets

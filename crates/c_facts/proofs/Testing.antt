@@ -1,6 +1,6 @@
 -- What holds after a test that came out so.
 use Rattle.std.specs.Int.{bit_at}
-use Rattle.std.proofs.Common.{◌≡◌, ◌<◌, ◌≤◌, ◌^◌, ◌*◌, nat_eq, nat_lt, not, bit_and, ℕ, zero, suc, ℤ, pos, negsuc, Bool, true}
+use Rattle.std.proofs.Common.{◌≡◌, ◌<◌, ◌≤◌, ◌^◌, ◌*◌, nat_eq, nat_lt, not, bit_and, ℕ, zero, suc, ℤ, pos, Bool, true}
 use Rattle.std.proofs.Common.{false, cond, Option, Some, None, ◌⊎◌, inl, inr, slice_get, unsigned_abs, refl, sym, ap}
 use Rattle.std.proofs.Common.{◌∙◌, subst, arith, pow_pos}
 use Rattle.std.proofs.lemmas.Bool.Decides.{nat_tests}
@@ -26,7 +26,8 @@ use Rattle.c_facts.specs.Asking.{bits_question, question, equality, answered, se
 use Rattle.c_facts.proofs.NumberSets.{same}
 use Rattle.c_facts.proofs.PlaceLemmas.{is-width, IsWord, is-word, number-there}
 use Rattle.c_facts.proofs.ValueLemmas.{unsigned, below, is-below, same-gives, own-stays, compared-unsigned}
-use Rattle.c_facts.proofs.ValueLemmas.{bits-mean, compare-means, combined-unsigned, true-one, came-out, equality-tells, field-is, constant-is, single-is}
+use Rattle.c_facts.proofs.ValueLemmas.{bits-mean, compare-means, combined-unsigned, true-one, came-out}
+use Rattle.c_facts.proofs.ValueLemmas.{equality-tells, field-is, constant-is, single-is}
 use Rattle.c_facts.proofs.Holding.{Tells, narrowed-hold, joined-holds-first, joined-holds-second}
 
 -- ---- a comparison of a field with a number
@@ -297,7 +298,8 @@ module _ (int : Width) (s : Store) (l : Locals) where
           → Hold s (tested (not way) e k)
       at (Gives y) is m =
           ie (not way) k y is
-          (flip (is_true y.value) (came-out int (not (is_true y.value)) way x (truth int (not (is_true y.value))) refl m t))
+          (flip (is_true y.value)
+          (came-out int (not (is_true y.value)) way x (truth int (not (is_true y.value))) refl m t))
           h
       at Wrong is m = absurd cc
 
@@ -307,7 +309,9 @@ module _ (int : Width) (s : Store) (l : Locals) where
   both-true a b ia ib k x m t h = at (meaning int s l a) refl m
     where
       Way : CValue → Meaning
-      Way y = cond (is_true y.value) (with_meaning (meaning int s l b) (λ z. truth int (is_true z.value))) (truth int false)
+      Way y =
+          cond (is_true y.value) (with_meaning (meaning int s l b) (λ z. truth int (is_true z.value)))
+          (truth int false)
 
       second : (o : Meaning) → meaning int s l b ≡ o → with_meaning o (λ z. truth int (is_true z.value)) ≡ Gives x
           → Hold s (tested true a k)
@@ -343,7 +347,9 @@ module _ (int : Width) (s : Store) (l : Locals) where
       two = tested false b (tested true a k)
 
       Way : CValue → Meaning
-      Way y = cond (is_true y.value) (with_meaning (meaning int s l b) (λ z. truth int (is_true z.value))) (truth int false)
+      Way y =
+          cond (is_true y.value) (with_meaning (meaning int s l b) (λ z. truth int (is_true z.value)))
+          (truth int false)
 
       second : (o : Meaning) → meaning int s l b ≡ o → with_meaning o (λ z. truth int (is_true z.value)) ≡ Gives x
           → Hold s (tested true a k) → Hold s two
@@ -376,7 +382,9 @@ module _ (int : Width) (s : Store) (l : Locals) where
       two = tested true b (tested false a k)
 
       Way : CValue → Meaning
-      Way y = cond (is_true y.value) (truth int true) (with_meaning (meaning int s l b) (λ z. truth int (is_true z.value)))
+      Way y =
+          cond (is_true y.value) (truth int true)
+          (with_meaning (meaning int s l b) (λ z. truth int (is_true z.value)))
 
       second : (o : Meaning) → meaning int s l b ≡ o → with_meaning o (λ z. truth int (is_true z.value)) ≡ Gives x
           → Hold s (tested false a k) → Hold s two
@@ -403,7 +411,9 @@ module _ (int : Width) (s : Store) (l : Locals) where
   either-false a b ia ib k x m t h = at (meaning int s l a) refl m
     where
       Way : CValue → Meaning
-      Way y = cond (is_true y.value) (truth int true) (with_meaning (meaning int s l b) (λ z. truth int (is_true z.value)))
+      Way y =
+          cond (is_true y.value) (truth int true)
+          (with_meaning (meaning int s l b) (λ z. truth int (is_true z.value)))
 
       second : (o : Meaning) → meaning int s l b ≡ o → with_meaning o (λ z. truth int (is_true z.value)) ≡ Gives x
           → Hold s (tested false a k)

@@ -1,6 +1,6 @@
 -- What tests and stores of the C tell.
-use Rattle.std.specs.Prelude.{◌==◌, ◌-◌, ◌^◌, not, ℕ, zero, suc, ℤ, pos, negsuc, nat_lt, Bool, true, false, List, Option}
-use Rattle.std.specs.Prelude.{Some, None, if◌then◌else◌}
+use Rattle.std.specs.Prelude.{◌==◌, ◌-◌, ◌^◌, not, ℕ, zero, suc, ℤ, pos, negsuc, nat_lt, Bool, true, false, List}
+use Rattle.std.specs.Prelude.{Option, Some, None, if◌then◌else◌}
 use Rattle.c_subset.specs.declared.trees.Width.{Width}
 use Rattle.c_subset.specs.declared.trees.Width.TheVariants.{W8, W16, W32, W64, W128}
 use Rattle.c_subset.specs.declared.trees.CType.{CType}
@@ -97,7 +97,7 @@ masked_question (Some f) None c = None
 masked_question (Some f) (Some m) None = None
 masked_question (Some f) (Some m) (Some c) =
     if bits m.width == bits c.width then (
-      if c.number == 0 then bit_question f m (single_bit 32 m.number) else None
+    if c.number == 0 then bit_question f m (single_bit 32 m.number) else None
     ) else None
 
 -- `m->f == C`, by its operands

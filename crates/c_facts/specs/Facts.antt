@@ -227,7 +227,7 @@ covers_rows rs [] = true
 covers_rows [] (b ∷ bs) = false
 covers_rows (a ∷ rs) (b ∷ bs) =
     if same_row a b then (
-      if covers_sets (same_home a.home b.home) a.sets b.sets then covers_rows rs bs else false
+    if covers_sets (same_home a.home b.home) a.sets b.sets then covers_rows rs bs else false
     ) else covers_rows rs (b ∷ bs)
 
 -- where the first holds the second does

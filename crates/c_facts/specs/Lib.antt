@@ -3,3 +3,4 @@ pub mod Facts
 pub mod Asking
 pub mod Claims
 pub mod Views
+pub mod Examples

@@ -26,12 +26,7 @@ fn unchanged_row(alloc: Global, row: &Row, touched: &Places) -> Result<Row, Memo
 }
 
 /// A row before others, if its place doesn't change.
-fn with_unchanged(
-    alloc: Global,
-    row: &Row,
-    touched: &Places,
-    rest: Rows,
-) -> Result<Rows, Memory>
+fn with_unchanged(alloc: Global, row: &Row, touched: &Places, rest: Rows) -> Result<Rows, Memory>
     ensures { IfOk result (λ all. rows_of all ≡ spec.with_unchanged
         (spec.is_touched (places_of touched.now)) (row_of row.now) (rows_of rest)) }
 {

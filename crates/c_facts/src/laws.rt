@@ -1,15 +1,67 @@
 //! What holds of what is known after tests, stores and calls.
-ghost use Rattle.std.specs.Prelude.{◌≡◌, ℕ, Bool, true, List};
+ghost use Rattle.std.specs.Prelude.{◌≡◌, ℕ, Bool, true, false, List, [], ◌∷◌, pos};
 ghost use Rattle.c_subset.specs.declared.trees.Width.{Width};
-ghost use Rattle.c_subset.specs.Trees.{CExpr};
-ghost use Rattle.c_facts.specs.Known.{Place, Known, Imply};
+ghost use Rattle.c_subset.specs.declared.trees.Width.TheVariants.{W16};
+ghost use Rattle.c_subset.specs.declared.trees.CType.TheVariants.{Unsigned};
+ghost use Rattle.c_subset.specs.Trees.{CExpr, Const, Both, Bang};
+ghost use Rattle.c_facts.specs.Known.{Place, Anything, OneOf, Known, Never, Imply};
+ghost use Rattle.c_facts.specs.declared.known.Place.TheVariants as places;
 ghost use Rattle.c_facts.specs.Facts.{
-  joined, covers, is_never, framed, forgotten, is_touched, all_covered
+  joined,
+  covers,
+  is_never,
+  framed,
+  forgotten,
+  is_touched,
+  all_covered,
 };
 ghost use Rattle.c_facts.specs.Asking.{tested, stored, may_store};
-ghost use Rattle.c_facts.specs.Claims.{
-  AfterTest, AfterStore, StoresWithin, AfterElement, AfterCall, AfterChange, AfterEither, NeverHolds
+ghost use Rattle.c_facts.specs.Examples.{
+  chart_known,
+  or_none,
+  surely,
+  between,
+  is_child,
+  is_set,
+  with_bits,
+  only_bits,
 };
+ghost use Rattle.c_facts.specs.Claims.{
+  AfterTest,
+  AfterStore,
+  StoresWithin,
+  AfterElement,
+  AfterCall,
+  AfterChange,
+  AfterEither,
+  NeverHolds,
+};
+
+/// What tests, stores and calls tell of a small chart: single cases.
+pub fn tests_of_a_small_chart_are_decided()
+    ensures up { tested true (is_child 1 3) between
+        ≡ chart_known (surely (2 ∷ [])) (surely (3 ∷ [])) (surely (1 ∷ [])) (surely (0 ∷ 1 ∷ [])) }
+    ensures down { tested true (is_child 0 1) between ≡ chart_known (surely (1 ∷ []))
+        (OneOf [] (0 ∷ [])) (surely (1 ∷ [])) (surely (0 ∷ 1 ∷ [])) }
+    ensures none { tested true (Both (is_child 0 1) (is_child 1 3)) between ≡ Never }
+    ensures unequal { tested false (Bang (is_child 0 7)) between ≡ Never }
+    ensures bit { tested true (is_set 2 2) (tested true (is_set 2 1) between)
+        ≡ chart_known (surely (1 ∷ 2 ∷ [])) (or_none (3 ∷ 4 ∷ [])) (surely (1 ∷ []))
+        (surely (1 ∷ [])) }
+    ensures bit_that_is_set { stored 2 (with_bits 2 2) between ≡ chart_known (or_none (1 ∷ 2 ∷ []))
+        (or_none (3 ∷ 4 ∷ [])) (or_none (1 ∷ [])) (OneOf (1 ∷ []) (1 ∷ [])) }
+    ensures bit_that_is_cleared { stored 2 (only_bits 2 4294967293) between
+        ≡ chart_known (or_none (1 ∷ 2 ∷ [])) (or_none (3 ∷ 4 ∷ [])) (or_none (1 ∷ []))
+        (OneOf (0 ∷ []) (0 ∷ [])) }
+    ensures child { stored 0 (Const (Unsigned W16) (pos 2)) (tested true (is_child 0 1) between)
+        ≡ chart_known (surely (2 ∷ [])) (surely (0 ∷ [])) (surely (1 ∷ [])) (surely (0 ∷ 1 ∷ [])) }
+    ensures call { framed (is_touched (places.Bit 2 1 ∷ [])) (tested true (is_child 1 3) between)
+        (chart_known Anything Anything Anything (OneOf (0 ∷ []) (0 ∷ [])))
+        ≡ chart_known (surely (2 ∷ [])) (surely (3 ∷ [])) (surely (1 ∷ []))
+        (OneOf (0 ∷ []) (0 ∷ [])) }
+    ensures only_the_bit { may_store (places.Bit 2 1 ∷ []) 2 (only_bits 2 4294967293) between
+        ≡ true }
+{}
 
 /// What is known after a test that came out so holds.
 pub fn tested_facts_hold()

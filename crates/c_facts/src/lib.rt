@@ -5,20 +5,26 @@
 //! `specs/Asking.antt` for what is done with it, and `specs/Claims.antt` for what then holds.
 #![tactic(auto)]
 
-mod asking;
+mod constants;
 mod facts;
 mod framing;
 mod known;
 mod laws;
 mod numbers;
 mod places;
+mod questions;
 mod rows;
 mod sets;
+mod stores;
 
-pub use asking::{may_store, stored, tested};
 pub use facts::{copied, covers, forgotten, framed, is_never, joined};
 pub use known::{
     Change, Constant, Home, Known, News, Numbers, Place, Places, Question, Row, Rows, Sets, Written,
 };
-pub use laws::{framed_facts_hold, joined_facts_hold, stored_facts_hold, tested_facts_hold};
+pub use laws::{
+    framed_facts_hold, joined_facts_hold, stored_facts_hold, tested_facts_hold,
+    tests_of_a_small_chart_are_decided,
+};
 pub use places::{all_covered, is_touched};
+pub use questions::tested;
+pub use stores::{may_store, stored};

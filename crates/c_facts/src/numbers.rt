@@ -47,7 +47,8 @@ pub fn copied(alloc: Global, numbers: &Numbers) -> Result<Numbers, Memory>
 
 /// Those that are that number, or those that aren't.
 pub fn kept(alloc: Global, numbers: &Numbers, way: bool, number: u32) -> Result<Numbers, Memory>
-    ensures { IfOk result (λ left. numbers_of left ≡ spec.kept way number (numbers_of numbers.now)) }
+    ensures { IfOk result (λ left. numbers_of left
+        ≡ spec.kept way number (numbers_of numbers.now)) }
 {
     match numbers {
         Numbers::Empty => Ok(Numbers::Empty),

@@ -32,7 +32,12 @@ pub fn more(alloc: Global, row: Row, rest: Rows) -> Result<Rows, Memory>
 pub fn with_sets(row: &Row, sets: Sets) -> Row
     ensures { row_of result ≡ record (row_of row.now) { sets = sets_of sets } }
 {
-    Row { place: row.place, width: row.width, home: row.home, sets }
+    Row {
+        place: row.place,
+        width: row.width,
+        home: row.home,
+        sets,
+    }
 }
 
 /// The same row.
@@ -142,7 +147,11 @@ pub fn restricted(
         Rows::End => Ok(Rows::End),
         Rows::More(row, rest) => {
             let others = restricted(alloc, rest, way, number, place)?;
-            more(alloc, restricted_row(alloc, row, way, number, place)?, others)
+            more(
+                alloc,
+                restricted_row(alloc, row, way, number, place)?,
+                others,
+            )
         }
     }
 }
@@ -160,7 +169,8 @@ fn lowered_row(alloc: Global, row: &Row, home: &Sets) -> Result<Row, Memory>
 
 /// What the sets of a place tell of a row, if the place is its home.
 fn lowered_if(alloc: Global, row: &Row, place: Place, home: &Sets) -> Result<Row, Memory>
-    ensures { IfOk result (λ left. row_of left ≡ (if spec.same_place (row_of row.now).home.place place
+    ensures { IfOk result (λ left. row_of left
+        ≡ (if spec.same_place (row_of row.now).home.place place
         then spec.lowered_row (sets_of home.now) (row_of row.now) else row_of row.now)) }
 {
     if same_place(row.home.place, place) {
@@ -314,12 +324,7 @@ fn stored_row(alloc: Global, row: &Row, field: u32, written: Written) -> Result<
 }
 
 /// After a field was written.
-pub fn stored_rows(
-    alloc: Global,
-    rows: &Rows,
-    field: u32,
-    written: Written,
-) -> Result<Rows, Memory>
+pub fn stored_rows(alloc: Global, rows: &Rows, field: u32, written: Written) -> Result<Rows, Memory>
     ensures { IfOk result (λ after. rows_of after
         ≡ spec.stored_rows field written (rows_of rows.now)) }
 {

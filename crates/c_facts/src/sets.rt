@@ -128,12 +128,7 @@ pub fn blurred(alloc: Global, sets: &Sets) -> Result<Sets, Memory>
 }
 
 /// After that became of the home, which has its own number.
-pub fn moved_sets(
-    alloc: Global,
-    sets: &Sets,
-    change: Change,
-    value: u32,
-) -> Result<Sets, Memory>
+pub fn moved_sets(alloc: Global, sets: &Sets, change: Change, value: u32) -> Result<Sets, Memory>
     ensures { IfOk result (λ all. sets_of all ≡ spec.moved_sets change value (sets_of sets.now)) }
 {
     match change {
@@ -155,7 +150,8 @@ pub fn moved_sets(
 
 /// That number, where there was one.
 fn put_number(alloc: Global, numbers: &Numbers, number: u32) -> Result<Numbers, Memory>
-    ensures { IfOk result (λ put. numbers_of put ≡ spec.put_number number (numbers_of numbers.now)) }
+    ensures { IfOk result (λ put. numbers_of put
+        ≡ spec.put_number number (numbers_of numbers.now)) }
 {
     match numbers {
         Numbers::Empty => Ok(Numbers::Empty),

@@ -17,6 +17,7 @@ mod rows;
 mod sets;
 mod stores;
 
+pub use constants::constant_of;
 pub use facts::{copied, covers, forgotten, framed, is_never, joined};
 pub use known::{
     Change, Constant, Home, Known, News, Numbers, Place, Places, Question, Row, Rows, Sets, Written,
@@ -25,6 +26,7 @@ pub use laws::{
     framed_facts_hold, joined_facts_hold, stored_facts_hold, tested_facts_hold,
     tests_of_a_small_chart_are_decided,
 };
-pub use places::{all_covered, is_touched};
-pub use questions::tested;
+pub use numbers::agrees;
+pub use places::{all_covered, field_of, is_covered, is_touched, same_width};
+pub use questions::{equality, tested};
 pub use stores::{may_store, stored};

@@ -106,7 +106,7 @@ fn question(left: &CExpr, right: &CExpr) -> Option<Question>
 }
 
 /// Whether a comparison is one of equality, and of which kind.
-fn equality(op: Comparison) -> Option<bool>
+pub fn equality(op: Comparison) -> Option<bool>
     ensures { result ≡ spec.equality op }
 {
     match op {

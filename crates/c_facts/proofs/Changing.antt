@@ -1,17 +1,16 @@
 -- What holds after places changed.
 use Rattle.std.proofs.Common.{◌≡◌, nat_eq, ℕ, Bool, true, false, cond, List, [], ◌∷◌, Option, Some, refl, sym, ap, ◌∙◌}
 use Rattle.std.proofs.Common.{subst}
-use Rattle.c_subset.specs.declared.trees.Width.{Width}
 use Rattle.c_subset.specs.Meaning.{Store}
 use Rattle.c_facts.specs.Known.{Place, Home, Sets, Anything, OneOf, Row, Known, Never, Rows, is_in, field_of, number_at}
 use Rattle.c_facts.specs.Known.{is_number, is_at, IsThere, HasOne, HasSets, HoldRows, Hold, type_at, Stays}
 use Rattle.c_facts.specs.Facts.{Written, Change, united, common, same_home, same_row, blurred, moved_sets, put_number}
-use Rattle.c_facts.specs.Facts.{put_sets, change_at, stored_row, stored_rows, met, framed_sets, with_unchanged}
+use Rattle.c_facts.specs.Facts.{put_sets, change_at, stored_rows, met, framed_sets, with_unchanged}
 use Rattle.c_facts.specs.Facts.{framed_rows, framed, forgotten}
 use Rattle.c_facts.specs.declared.known.Change.TheVariants as changes
 use Rattle.c_facts.proofs.NumberSets.{in-first, in-first-set, in-second-set, in-common}
 use Rattle.c_facts.proofs.PlaceLemmas.{same-at, is-row, still-there}
-use Rattle.c_facts.proofs.Holding.{by-sets, wider, no-one, closed-hold}
+use Rattle.c_facts.proofs.Holding.{wider, no-one, closed-hold}
 
 -- what became of the number at a place
 abbrev pub IsChange : Store → Store → Place → Change → Type 0

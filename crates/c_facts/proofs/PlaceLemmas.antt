@@ -1,13 +1,11 @@
 -- Places, and the numbers at them.
 use Rattle.std.specs.Option.{option_and_then}
-use Rattle.std.specs.Int.{bit_at}
 use Rattle.std.proofs.Common.{◌≡◌, ◌^◌, nat_eq, nat_lt, ℕ, ℤ, pos, negsuc, Bool, true, false, cond, List, [], ◌∷◌}
-use Rattle.std.proofs.Common.{Option, Some, None, slice_get, refl, sym, ap, ◌∙◌, subst, arith}
-use Rattle.std.proofs.lemmas.Bool.Decides.{nat_tests}
+use Rattle.std.proofs.Common.{Option, Some, None, slice_get, refl, sym, ap, ◌∙◌, subst}
 use Rattle.c_subset.specs.declared.trees.Width.{Width}
 use Rattle.c_subset.specs.declared.trees.Width.TheVariants.{W8, W16, W32, W64, W128}
 use Rattle.c_subset.specs.declared.trees.CType.{CType}
-use Rattle.c_subset.specs.declared.trees.CType.TheVariants.{Signed, Unsigned, Truth}
+use Rattle.c_subset.specs.declared.trees.CType.TheVariants.{Unsigned}
 use Rattle.c_subset.specs.Meaning.{bits, Object, Store}
 use Rattle.c_facts.specs.Known.{Place, Home, Row, field_of, number_in, number_of, number_at, is_number, is_at, object}
 use Rattle.c_facts.specs.Known.{IsThere, type_at, HoldRows}

@@ -1,8 +1,8 @@
 -- What a store puts into a field, and what holds after it.
 use Rattle.std.specs.Option.{option_and_then}
 use Rattle.std.specs.Int.{bit_at}
-use Rattle.std.proofs.Common.{◌≡◌, ◌≢◌, ◌<◌, ◌≤◌, ◌-◌, ◌^◌, min, max, nat_eq, nat_lt, bit_and, bit_or, ℕ, zero, suc, ℤ}
-use Rattle.std.proofs.Common.{pos, negsuc, Bool, true, false, cond, List, [], ◌∷◌, Option, Some, None, ◌⊎◌, inl, inr}
+use Rattle.std.proofs.Common.{◌≡◌, ◌≢◌, ◌<◌, ◌-◌, ◌^◌, nat_eq, bit_and, bit_or, ℕ, zero, suc, ℤ}
+use Rattle.std.proofs.Common.{pos, Bool, true, false, cond, List, [], ◌∷◌, Option, Some, None, ◌⊎◌, inl, inr}
 use Rattle.std.proofs.Common.{slice_get, slice_set, refl, sym, ap, ◌∙◌, subst, arith}
 use Rattle.std.proofs.lemmas.Bool.Decides.{nat_tests}
 use Rattle.std.proofs.lemmas.Nat.Bits.{bit_at_and, bit_at_or, bit_at-lt}
@@ -26,7 +26,7 @@ use Rattle.c_facts.specs.Facts.{Written, change_of, change_at, width_at, is_know
 use Rattle.c_facts.specs.Asking.{unsigned_of, constant_of, field_in, number_written, mask_written, bits_written}
 use Rattle.c_facts.specs.Asking.{written_in, written_by, written, stored}
 use Rattle.c_facts.proofs.NumberSets.{same}
-use Rattle.c_facts.proofs.PlaceLemmas.{is-width, width-there, number-there, IsWord, is-word, there-type}
+use Rattle.c_facts.proofs.PlaceLemmas.{is-width, width-there, number-there, IsWord, is-word}
 use Rattle.c_facts.proofs.ValueLemmas.{unsigned, below, is-below, same-gives, own-stays, combined-unsigned, field-is}
 use Rattle.c_facts.proofs.ValueLemmas.{bits-mean, const-means, bits-small, unsigned-is, constant-is}
 use Rattle.c_facts.proofs.Changing.{IsChange, rows-stored}

@@ -1,31 +1,30 @@
 -- What holds after a test that came out so.
 use Rattle.std.specs.Int.{bit_at}
-use Rattle.std.proofs.Common.{◌≡◌, ◌<◌, ◌≤◌, ◌^◌, ◌*◌, nat_eq, nat_lt, not, bit_and, ℕ, zero, suc, ℤ, pos, Bool, true}
-use Rattle.std.proofs.Common.{false, cond, Option, Some, None, ◌⊎◌, inl, inr, slice_get, unsigned_abs, refl, sym, ap}
+use Rattle.std.proofs.Common.{◌≡◌, ◌<◌, ◌≤◌, ◌^◌, ◌*◌, nat_eq, not, bit_and, ℕ, zero, suc, ℤ, pos, Bool, true}
+use Rattle.std.proofs.Common.{false, cond, Option, Some, None, ◌⊎◌, inl, inr, slice_get, refl, sym, ap}
 use Rattle.std.proofs.Common.{◌∙◌, subst, arith, pow_pos}
 use Rattle.std.proofs.lemmas.Bool.Decides.{nat_tests}
 use Rattle.std.proofs.lemmas.Nat.Bits.{and_pow, bit_at-lt}
 use Rattle.c_subset.specs.declared.trees.Width.{Width}
 use Rattle.c_subset.specs.declared.trees.CType.{CType}
 use Rattle.c_subset.specs.declared.trees.CType.TheVariants.{Signed, Unsigned, Truth}
-use Rattle.c_subset.specs.declared.trees.Bitwise.{Bitwise}
 use Rattle.c_subset.specs.declared.trees.Bitwise.TheVariants.{BitAnd, BitOr}
 use Rattle.c_subset.specs.declared.trees.Comparison.{Comparison}
 use Rattle.c_subset.specs.Trees.{CExpr, Const, Field, Element, Local, Cast, Minus, Bang, Calc, Divide, Bits, Compare}
 use Rattle.c_subset.specs.Trees.{Both, Either, Choose}
 use Rattle.c_subset.specs.Meaning.{bits, fits_signed, CValue, Meaning, Gives, Wrong, with_meaning, gives, converted}
-use Rattle.c_subset.specs.Meaning.{bits_of, combined, compared, passes, truth, one_if, is_true, Object, read, Store}
+use Rattle.c_subset.specs.Meaning.{combined, compared, passes, truth, one_if, is_true, Object, read, Store}
 use Rattle.c_subset.specs.Meaning.{Locals, meaning}
-use Rattle.c_facts.specs.Known.{Place, Known, Never, Hold, IsThere, field_of, number_in, number_at, object}
+use Rattle.c_facts.specs.Known.{Known, Never, Hold, IsThere, field_of, object}
 use Rattle.c_facts.specs.declared.known.Place.TheVariants as places
 use Rattle.c_facts.specs.declared.known.Constant.{Constant}
 use Rattle.c_facts.specs.declared.known.Question.{Question}
 use Rattle.c_facts.specs.Facts.{agrees, joined}
 use Rattle.c_facts.specs.Asking.{constant_of, field_in, single_bit, bit_question, masked_question, field_question}
-use Rattle.c_facts.specs.Asking.{bits_question, question, equality, answered, settled, tested}
+use Rattle.c_facts.specs.Asking.{question, equality, answered, settled, tested}
 use Rattle.c_facts.proofs.NumberSets.{same}
-use Rattle.c_facts.proofs.PlaceLemmas.{is-width, IsWord, is-word, number-there}
-use Rattle.c_facts.proofs.ValueLemmas.{unsigned, below, is-below, same-gives, own-stays, compared-unsigned}
+use Rattle.c_facts.proofs.PlaceLemmas.{is-width, is-word, number-there}
+use Rattle.c_facts.proofs.ValueLemmas.{unsigned, below, same-gives, own-stays, compared-unsigned}
 use Rattle.c_facts.proofs.ValueLemmas.{bits-mean, compare-means, combined-unsigned, true-one, came-out}
 use Rattle.c_facts.proofs.ValueLemmas.{equality-tells, field-is, constant-is, single-is}
 use Rattle.c_facts.proofs.Holding.{Tells, narrowed-hold, joined-holds-first, joined-holds-second}

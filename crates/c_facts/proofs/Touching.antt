@@ -1,21 +1,19 @@
 -- Which places may change.
 use Rattle.std.specs.Int.{bit_at}
-use Rattle.std.proofs.Common.{◌≡◌, ◌≢◌, ◌<◌, ◌≤◌, ◌-◌, ◌^◌, ◌/◌, ◌%◌, nat_eq, bit_and, bit_or, ℕ, zero, suc}
+use Rattle.std.proofs.Common.{◌≡◌, ◌≢◌, ◌<◌, ◌≤◌, ◌-◌, ◌^◌, ◌%◌, nat_eq, bit_and, bit_or, ℕ, zero, suc}
 use Rattle.std.proofs.Common.{Bool, true, false, cond, List, [], ◌∷◌, Option, Some, None, ◌⊎◌, inl, inr, slice_get}
-use Rattle.std.proofs.Common.{refl, sym, ap, ◌∙◌, subst, arith, min, max, w32}
+use Rattle.std.proofs.Common.{refl, sym, ap, ◌∙◌, subst, arith, min, w32}
 use Rattle.std.proofs.lemmas.Bool.{cases_lt}
 use Rattle.std.proofs.lemmas.Bool.Decides.{nat_tests}
 use Rattle.std.proofs.lemmas.Nat.{pow_below}
 use Rattle.std.proofs.lemmas.Nat.Bits.{bit_at_and, bit_at_or, bit_at-pow_other, bit_at_not, bit_at-lt}
 use Rattle.std.proofs.Math.Nat.{div-eq_of_lt}
-use Rattle.std.specs.Option.{option_and_then}
 use Rattle.fixed_point.proofs.Powers.{power-le}
 use Rattle.c_subset.specs.declared.trees.Width.{Width}
-use Rattle.c_subset.specs.declared.trees.Width.TheVariants.{W8, W16, W32, W64, W128}
 use Rattle.c_subset.specs.Trees.{CExpr}
-use Rattle.c_subset.specs.Meaning.{bits, CValue, Gives, Object, Store, Locals, meaning, with_meaning}
+use Rattle.c_subset.specs.Meaning.{bits, CValue, Gives, Store, Locals, meaning, with_meaning}
 use Rattle.c_subset.specs.Running.{brought_to, object_of, with_field}
-use Rattle.c_facts.specs.Known.{Place, Row, Known, Never, Rows, field_of, number_at, HoldRows, Hold, Stays, type_at}
+use Rattle.c_facts.specs.Known.{Place, Known, Never, Rows, field_of, number_at, Hold, Stays}
 use Rattle.c_facts.specs.declared.known.Place.TheVariants as places
 use Rattle.c_facts.specs.declared.known.Written.TheVariants as writes
 use Rattle.c_facts.specs.Facts.{Written, same_place, width_at, is_numbered, overlaps, is_touched, has_place, is_covered}

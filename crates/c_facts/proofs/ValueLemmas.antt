@@ -1,5 +1,5 @@
 -- Values of one unsigned type, and the constants and fields that expressions are.
-use Rattle.std.proofs.Common.{◌≡◌, ◌≢◌, ◌<◌, ◌^◌, nat_eq, nat_lt, ◌-◌, not, ℕ, zero, suc, ℤ, pos, negsuc, Bool, true}
+use Rattle.std.proofs.Common.{◌≡◌, ◌<◌, ◌^◌, nat_eq, nat_lt, ◌-◌, not, ℕ, zero, suc, ℤ, pos, negsuc, Bool, true}
 use Rattle.std.proofs.Common.{false, cond, Option, Some, None, ◌⊎◌, inl, inr, slice_get, refl, sym, ap, ◌∙◌, subst}
 use Rattle.std.proofs.Common.{arith, mod-eq_of_lt}
 use Rattle.std.proofs.lemmas.Bool.Decides.{nat_tests}

@@ -1,0 +1,9 @@
+pub mod NumberSets
+pub mod BitLemmas
+pub mod PlaceLemmas
+pub mod ValueLemmas
+pub mod Holding
+pub mod Changing
+pub mod Testing
+pub mod Storing
+pub mod Touching

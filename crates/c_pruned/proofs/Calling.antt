@@ -1,13 +1,14 @@
 -- Functions without what nobody needs return what they did.
-use Rattle.std.proofs.Common.{◌≡◌, ℕ, zero, suc, Bool, true, false, cond, List, map, Option, Some, None, slice_get, sym}
+use Rattle.std.proofs.Common.{◌≡◌, ℕ, zero, suc, cond, List, Option, Some, None, slice_get, sym}
 use Rattle.std.proofs.Common.{option_map, subst}
 use Rattle.std.proofs.lemmas.Option.{slice_get-map}
 use Rattle.c_subset.specs.declared.trees.Width.{Width}
 use Rattle.c_subset.specs.Trees.{Function, File}
 use Rattle.c_subset.specs.Trees.{Block, End, Set, Store as PutField, StoreAt, Call, Select, If, While, Return}
 use Rattle.c_subset.specs.Meaning.{CValue, with_meaning, converted, promoted, is_true, Store, element, Locals, meaning}
-use Rattle.c_subset.specs.Running.{Outcome, Returns, with_value, and_on, no_locals, with_local, brought_to, with_field}
-use Rattle.c_subset.specs.Running.{with_element, Calls, with_values, called, turns, selected, outcome, returned, run, call}
+use Rattle.c_subset.specs.Running.{Returns, with_value, and_on, no_locals, with_local, brought_to, with_field}
+use Rattle.c_subset.specs.Running.{with_element, Calls, with_values, called, turns, selected, outcome, returned, run}
+use Rattle.c_subset.specs.Running.{call}
 use Rattle.c_pruned.specs.Tests.{truth_of}
 use Rattle.c_pruned.specs.Pruned.{decided_if, pruned, pruned_of, with_pruned}
 use Rattle.c_pruned.proofs.Kept.{Kept, kept-itself, kept-on, kept-returns, value-kept, on-kept, cond-kept, called-kept}

@@ -1,5 +1,6 @@
 -- Statements after others, and statements that always return.
-use Rattle.std.proofs.Common.{◌≡◌, ℕ, ℤ, pos, int_le, ◌&&◌, ◌||◌, Bool, true, false, cond, List, [], ◌∷◌, slice_get, refl}
+use Rattle.std.proofs.Common.{◌≡◌, ℕ, ℤ, pos, int_le, ◌&&◌, ◌||◌, Bool, true, false, cond, List, [], ◌∷◌, slice_get}
+use Rattle.std.proofs.Common.{refl}
 use Rattle.c_subset.specs.declared.trees.Width.{Width}
 use Rattle.c_subset.specs.declared.trees.CType.{CType}
 use Rattle.c_subset.specs.declared.trees.Case.{Case}

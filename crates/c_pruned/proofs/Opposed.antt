@@ -1,5 +1,5 @@
 -- Tests the other way round, and tests that are constants.
-use Rattle.std.proofs.Common.{◌≡◌, ◌==◌, ℕ, ℤ, pos, negsuc, int_le, int_lt, ◌&&◌, not, Bool, true, false, cond, Option}
+use Rattle.std.proofs.Common.{◌≡◌, ◌==◌, ℤ, pos, negsuc, int_le, int_lt, ◌&&◌, not, Bool, true, false, cond}
 use Rattle.std.proofs.Common.{Some, None, refl, sym, ap, ◌∙◌, subst, arith}
 use Rattle.std.proofs.lemmas.Int.{ints}
 use Rattle.c_subset.specs.declared.trees.Width.{Width}

@@ -1,9 +1,9 @@
 -- Each rule for an `if` keeps how it ends.
-use Rattle.std.proofs.Common.{◌≡◌, ℕ, ◌&&◌, not, Bool, true, false, cond, Option, Some, None, refl, sym, ap, ◌∙◌, subst}
+use Rattle.std.proofs.Common.{◌≡◌, ℕ, ◌&&◌, not, Bool, true, false, cond, Option, Some, None, refl, sym, ◌∙◌, subst}
 use Rattle.c_subset.specs.declared.trees.Width.{Width}
 use Rattle.c_subset.specs.Trees.{CExpr, Both}
-use Rattle.c_subset.specs.Trees.{Block, End, Set, Store as PutField, StoreAt, Call, Select, If, While, Return}
-use Rattle.c_subset.specs.Meaning.{CValue, Meaning, Gives, Wrong, with_meaning, truth, is_true, Store, Locals, meaning}
+use Rattle.c_subset.specs.Trees.{Block, End, If}
+use Rattle.c_subset.specs.Meaning.{Meaning, Gives, Wrong, with_meaning, truth, is_true, Store, Locals, meaning}
 use Rattle.c_subset.specs.Running.{Outcome, Falls, Returns, Starves, GoesWrong, with_value, and_on, Calls, outcome}
 use Rattle.c_trees.specs.Blocks.{is_end}
 use Rattle.c_trees.proofs.Lists.{end-is}
@@ -12,7 +12,7 @@ use Rattle.c_pruned.specs.Ends.{always_returns, then_on, followed_by}
 use Rattle.c_pruned.specs.Pruned.{only_if, falling_if, flat_if, are_same, tested_if, decided_if}
 use Rattle.c_pruned.proofs.Kept.{Kept, kept-itself, kept-on, value-kept}
 use Rattle.c_pruned.proofs.Following.{unreached, never-falls, follows, goes-on}
-use Rattle.c_pruned.proofs.Opposed.{truth-is, negates, opposed-kept, known-kept}
+use Rattle.c_pruned.proofs.Opposed.{negates, opposed-kept, known-kept}
 
 both-are : (a b : Bool) → (a && b) ≡ true → (a ≡ true) × (b ≡ true)
 both-are true b e = (refl, e)

@@ -64,6 +64,7 @@ pruned_of f = record f { body = pruned f.body }
 abbrev pub with_pruned : File → File
 with_pruned file = record file { functions = map pruned_of file.functions }
 
+-- an `if` whose parts and rest are pruned; other statements stay
 abbrev pub simplified : Block → Block
 simplified (If e a b rest) = decided_if (truth_of e) e a b rest
 simplified other = other

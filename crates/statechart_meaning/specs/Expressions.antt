@@ -53,7 +53,8 @@ meaning_value (IsDatum text) = None
 meaning_value (IsValue v) = Some v
 meaning_value IsUnknown = None
 
--- the value of a count that is a literal, a constant or an enumerator, with minus signs before it; no other count has one
+-- the value of a count that is a literal, a constant or an enumerator, with minus signs before it; no other count has
+-- one
 abbrev pub written_value : Scope → Expr → Option Value
 written_value s (Lit lit at) = Some (NumberValue false lit)
 written_value s (Flag value at) = Some (FlagValue value)

@@ -123,8 +123,8 @@ abbrev pub in_steps : Option Timer → core.Expr → core.Expr
 in_steps None e = e
 in_steps (Some t) e = times e (steps_in t 1 0)
 
--- a count: the whole literal where there is a number, at its place, and else the expression, in steps of the clock where
--- it has a unit
+-- a count: the whole literal where there is a number, at its place, and else the expression, in steps of the clock
+-- where it has a unit
 abbrev pub count_or : Option ℕ → Span → Option Timer → core.Expr → core.Expr
 count_or None at t e = in_steps t e
 count_or (Some n) at t e = core.Lit (number n) at

@@ -15,9 +15,11 @@ use Rattle.statechart_meaning.specs.Declared.{Counter, EveryCounter}
 abbrev pub to_zero : List ℕ → Span → core.Stmt
 to_zero text at = core.Assign (named text at) (core.Lit (number 0) at)
 
+-- a counter becomes 0, at the place of its event
 abbrev pub reset : Counter → core.Stmt
 reset k = to_zero k.name k.event.at
 
+-- one of `every` becomes 0, at the place of its event
 abbrev pub every_reset : EveryCounter → core.Stmt
 every_reset k = to_zero k.name k.counts.event.at
 
@@ -52,6 +54,7 @@ abbrev pub counting : List Counter → NameText → core.Trans
 counting ks e =
     counting_trans e (map (count_up e.at) (filter (λ (k : Counter). bytes_eq k.event.text e.text) ks))
 
+-- the event is counted with all its counters of `every`
 abbrev pub every_counting : List EveryCounter → NameText → core.Trans
 every_counting ks e =
     counting_trans e (map (count_around e.at) (filter (λ (k : EveryCounter). bytes_eq k.counts.event.text e.text) ks))
@@ -60,6 +63,7 @@ every_counting ks e =
 abbrev pub events_of : List Counter → List NameText
 events_of ks = without [] (map (λ (k : Counter). k.event) ks)
 
+-- the events that any state counts for an `every`
 abbrev pub every_events : List EveryCounter → List NameText
 every_events ks = without [] (map (λ (k : EveryCounter). k.counts.event) ks)
 

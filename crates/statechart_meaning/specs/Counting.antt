@@ -10,25 +10,27 @@ use Rattle.statechart_tree.specs.Trees.{Expr, Lit, Flag, Name, Active, Count, Ti
 use Rattle.statechart_tree.specs.Trees.{MoreExprs, Stmt, Assign, Update, Step, Send, Emit, Raise, Invoke, Trigger, Always}
 use Rattle.statechart_tree.specs.Trees.{On, AtTime, Every, Guard, Case, Trans, ActionWord, Entry, During, Exit, OnCases}
 use Rattle.statechart_tree.specs.Trees.{Action, Parts}
-use Rattle.statechart_meaning.specs.Times.{counted_event, count_number}
+use Rattle.statechart_meaning.specs.Times.{counted_event}
 use Rattle.statechart_meaning.specs.Scope.{Scope}
-use Rattle.statechart_meaning.specs.Expressions.{expand_expr, count}
+use Rattle.statechart_meaning.specs.Expressions.{every_number}
 
 -- ---- actions
 
--- which word it is
+-- whether it is `entry`
 abbrev pub is_entry : ActionWord → Bool
 is_entry Entry = true
 is_entry During = false
 is_entry Exit = false
 is_entry (OnCases cases at) = false
 
+-- whether it is `during`
 abbrev pub is_during : ActionWord → Bool
 is_during Entry = false
 is_during During = true
 is_during Exit = false
 is_during (OnCases cases at) = false
 
+-- whether it is `exit`
 abbrev pub is_exit : ActionWord → Bool
 is_exit Entry = false
 is_exit During = false
@@ -142,7 +144,7 @@ every_trigger s (On event) = []
 every_trigger s (AtTime word n event at) = []
 every_trigger s (Every n event at) = record {
   event = counted_event s.declared.events event;
-  number = count_number (count s (expand_expr s n) event);
+  number = every_number s n event;
 } ∷ []
 
 -- those of cases

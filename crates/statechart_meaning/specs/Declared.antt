@@ -99,5 +99,6 @@ counting_var text at = record {
 abbrev pub counter_var : Counter → core.Var
 counter_var k = counting_var k.name k.event.at
 
+-- the declaration of a counter of `every`
 abbrev pub every_var : EveryCounter → core.Var
 every_var k = counting_var k.name k.counts.event.at

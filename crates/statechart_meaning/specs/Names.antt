@@ -31,6 +31,7 @@ datum_at [] number x = x
 datum_at (s ∷ below) number x =
     fitted ((s ∷ below) ++ x ∷ []) (codes "state" ∷ (decimal number ∷ (x ∷ [])))
 
+-- the name of a datum of the state
 abbrev pub datum_name : Home → List ℕ → List ℕ
 datum_name h x = datum_at h.path h.number x
 

@@ -24,6 +24,7 @@ binary_at lit (Some bits) =
     then option_map (λ (m : ℕ). record { mantissa = m; bits = bits }) (steps_within lit.units lit.places bits)
     else None
 
+-- the number that a literal denotes in a chart text
 abbrev pub binary_of : LitText → Option Binary
 binary_of lit =
     if nat_le lit.places DIGIT_LIMIT then binary_at lit (frac_of lit.q lit.units lit.places) else None
@@ -56,6 +57,7 @@ binary_with bits lit b =
     if b.bits == bits then lit
     else (if nat_lt b.mantissa wide then short_mantissa lit bits (b.mantissa * 2 ^ bits / 2 ^ b.bits) else lit)
 
+-- a literal with so many bits behind the point, where it denotes a number
 abbrev pub at_bits : ℕ → LitText → Option Binary → LitText
 at_bits bits lit None = lit
 at_bits bits lit (Some b) = binary_with bits lit b

@@ -44,9 +44,11 @@ pub record Scope : Type 0 where
 
 -- how many states a state is with those below it
 abbrev mutual
+  -- a state and all below it
   pub state_count : State → ℕ
   state_count (StateOf p states) = suc (states_count states)
 
+  -- states and all below them
   pub states_count : States → ℕ
   states_count NoState = 0
   states_count (MoreStates state others) = state_count state + states_count others

@@ -31,6 +31,7 @@ meaning_target (IsDatum text) name = named text name.at
 meaning_target (IsValue v) name = name
 meaning_target IsUnknown name = name
 
+-- a path that is assigned
 abbrev pub target : Scope → Path → NameText
 target s path = meaning_target (meaning_of s path) (first_name path)
 

@@ -38,6 +38,7 @@ inits_of [] history vars = []
 inits_of (x ∷ xs) None vars = map init_stmt vars
 inits_of (x ∷ xs) (Some at) vars = []
 
+-- the first values that a state gives its data
 abbrev pub init_stmts : Declared → Home → Parts → List core.Stmt
 init_stmts d home p = inits_of home.path p.history (map (expand_var d home) p.vars)
 

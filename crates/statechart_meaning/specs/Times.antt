@@ -1,7 +1,6 @@
 -- Times in steps of the clock, and counts.
 use Rattle.std.specs.Prelude.{ℕ, ◌*◌, ◌^◌, ◌==◌, ◌&&◌, nat_lt, nat_le, Bool, true, false, List, [], ◌∷◌, Option, Some, None}
 use Rattle.std.specs.Prelude.{codes, bytes_eq, is_some, if◌then◌else◌}
-use Rattle.std.specs.Option.{unwrap_or}
 use Rattle.token_grammar.specs.declared.token.Span.{Span}
 use Rattle.chart_tree.specs.declared.name.NameText.{NameText}
 use Rattle.chart_tree.specs.declared.name.LitText.{LitText}
@@ -50,6 +49,7 @@ abbrev pub clock_with : SourceEvent → Option Period → Option Clock → Optio
 clock_with e None others = others
 clock_with e (Some period) others = Some (record { name = e.name.text; period = period })
 
+-- the clock of events
 abbrev pub clock_of : List SourceEvent → Option Clock
 clock_of [] = None
 clock_of (e ∷ es) = clock_with e e.period (clock_of es)
@@ -74,6 +74,7 @@ abbrev pub event_with : Option Timer → NameText → NameText
 event_with None name = name
 event_with (Some t) name = named t.clock.name name.at
 
+-- the event that is counted where that name stands
 abbrev pub counted_event : List SourceEvent → NameText → NameText
 counted_event es name = event_with (timer_of es name.text) name
 
@@ -83,6 +84,7 @@ counted_event es name = event_with (timer_of es name.text) name
 abbrev pub few_digits : ℕ
 few_digits = 12
 
+-- whether a number has few digits
 abbrev pub is_short : ℕ → ℕ → Bool
 is_short units places = nat_lt units (10 ^ few_digits) && nat_le places few_digits
 
@@ -102,11 +104,6 @@ abbrev pub literal_count : Option Timer → LitText → Option ℕ
 literal_count None lit = whole_of lit
 literal_count (Some t) lit = if is_some lit.q then None else steps_in t lit.units lit.places
 
--- the whole literal, or else the other expression
-abbrev pub count_or : core.Expr → Span → Option ℕ → core.Expr
-count_or e at None = e
-count_or e at (Some n) = core.Lit (number n) at
-
 -- the place of an expression: that of its first token
 abbrev pub place_of : core.Expr → Span
 place_of (core.Lit lit at) = at
@@ -121,24 +118,13 @@ abbrev pub times : core.Expr → Option ℕ → core.Expr
 times e None = e
 times e (Some k) = if k == 1 then e else core.Binary Mul e (core.Lit (number k) (place_of e)) (place_of e)
 
+-- an expression in steps of the clock, where it has a unit
 abbrev pub in_steps : Option Timer → core.Expr → core.Expr
 in_steps None e = e
 in_steps (Some t) e = times e (steps_in t 1 0)
 
--- a count: a whole literal where it is a literal, and else the expression, in steps of the clock where it has a unit
-abbrev pub count_expr : Option Timer → core.Expr → core.Expr
-count_expr t (core.Lit lit at) = count_or (core.Lit lit at) at (literal_count t lit)
-count_expr t (core.Flag value at) = core.Flag value at
-count_expr t (core.Name name) = in_steps t (core.Name name)
-count_expr t (core.Active path at) = core.Active path at
-count_expr t (core.Unary word e at) = in_steps t (core.Unary word e at)
-count_expr t (core.Binary word l r at) = in_steps t (core.Binary word l r at)
-
--- the number that a count is, 0 where it is none
-abbrev pub count_number : core.Expr → ℕ
-count_number (core.Lit lit at) = unwrap_or (whole_of lit) 0
-count_number (core.Flag value at) = 0
-count_number (core.Name name) = 0
-count_number (core.Active path at) = 0
-count_number (core.Unary word e at) = 0
-count_number (core.Binary word l r at) = 0
+-- a count: the whole literal where there is a number, at its place, and else the expression, in steps of the clock
+-- where it has a unit
+abbrev pub count_or : Option ℕ → Span → Option Timer → core.Expr → core.Expr
+count_or None at t e = in_steps t e
+count_or (Some n) at t e = core.Lit (number n) at

@@ -9,9 +9,10 @@ use Rattle.chart_tree.specs.Trees as core
 use Rattle.chart_tree.specs.Trees.{ToJunction}
 use Rattle.statechart_tree.specs.Trees.{Stmt, Guard, Trigger, Always, On, AtTime, Every, Case, Trans, Junction}
 use Rattle.statechart_meaning.specs.Names.{named, every_name, next_name}
-use Rattle.statechart_meaning.specs.Times.{counted_event, count_number}
+use Rattle.statechart_meaning.specs.Numbers.{number}
+use Rattle.statechart_meaning.specs.Times.{counted_event}
 use Rattle.statechart_meaning.specs.Scope.{Scope, home_of}
-use Rattle.statechart_meaning.specs.Expressions.{expand_expr, test, count}
+use Rattle.statechart_meaning.specs.Expressions.{expand_expr, test, count, every_number, first_place}
 use Rattle.statechart_meaning.specs.Statements.{expand_block}
 
 -- ---- cases
@@ -32,13 +33,14 @@ with_test s test at None = record { expr = test; at = at }
 with_test s test at (Some g) = record { expr = core.Binary words.And test (expand_expr s g.expr) g.at; at = g.at }
 
 -- the counter of `every(n, E)` for the state in which it is used, at the place of the word
-abbrev pub every_counter : Scope → core.Expr → NameText → Span → core.Expr
+abbrev pub every_counter : Scope → ℕ → NameText → Span → core.Expr
 every_counter s n event at =
-    core.Name (named (every_name (home_of s.frames) (counted_event s.declared.events event).text (count_number n)) at)
+    core.Name (named (every_name (home_of s.frames) (counted_event s.declared.events event).text n) at)
 
--- whether it has come to n
-abbrev pub every_test : Scope → core.Expr → NameText → Span → core.Expr
-every_test s n event at = core.Binary words.Eq (every_counter s n event at) n at
+-- whether it has come to n, which stands at its own place
+abbrev pub every_test : Scope → ℕ → Span → NameText → Span → core.Expr
+every_test s n place event at =
+    core.Binary words.Eq (every_counter s n event at) (core.Lit (number n) place) at
 
 -- the event and the guard of a case
 abbrev pub expand_case : Scope → Trigger → Option Guard → Tried
@@ -46,11 +48,11 @@ expand_case s Always g = record { event = None; guard = expand_guard s g }
 expand_case s (On event) g = record { event = Some event; guard = expand_guard s g }
 expand_case s (AtTime word n event at) g = record {
   event = Some (counted_event s.declared.events event);
-  guard = Some (with_test s (test s word (count s (expand_expr s n) event) event at) at g);
+  guard = Some (with_test s (test s word (count s n (expand_expr s n) event) event at) at g);
 }
 expand_case s (Every n event at) g = record {
   event = Some (counted_event s.declared.events event);
-  guard = Some (with_test s (every_test s (count s (expand_expr s n) event) event at) at g);
+  guard = Some (with_test s (every_test s (every_number s n event) (first_place n) event at) at g);
 }
 
 -- the event of a case that is an event alone

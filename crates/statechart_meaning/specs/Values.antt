@@ -149,9 +149,16 @@ abbrev pub minus : Value → Value
 minus (NumberValue negative lit) = NumberValue (not negative) lit
 minus (FlagValue value) = FlagValue value
 
+-- the value, with a minus sign before it where one is written
 abbrev pub with_sign : Bool → Value → Value
 with_sign false v = v
 with_sign true v = minus v
+
+-- the literal of a number that isn't below 0
+abbrev pub literal_of : Value → Option LitText
+literal_of (NumberValue false lit) = Some lit
+literal_of (NumberValue true lit) = None
+literal_of (FlagValue value) = None
 
 -- the value that a path denotes among constants and enumerators: `X`, or `M.X`
 abbrev pub path_value : List Enumeration → List Valued → Path → Option Value
@@ -200,6 +207,7 @@ abbrev pub first_member : List (Member × Whole) → Value
 first_member [] = FlagValue false
 first_member (m ∷ ms) = NumberValue m.1.negative (number m.1.size)
 
+-- the first enumerator of an enumeration, if there is one
 abbrev pub first_in : Option Enumeration → Value
 first_in None = FlagValue false
 first_in (Some e) = first_member (members_of e)

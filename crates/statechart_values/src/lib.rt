@@ -19,4 +19,4 @@ pub use enumerations::{enumeration_named, expand_sort};
 pub use events::{Clock, is_event};
 pub use firsts::{expand_first, path_value};
 pub use numbers::{number, whole_of};
-pub use value::{Value, Valued, value_named};
+pub use value::{Value, Valued, value_named, with_sign};

@@ -47,7 +47,7 @@ pub(crate) fn value_of(init: InitText) -> Value
 }
 
 /// The value, with a minus sign before it where one is written.
-pub(crate) fn with_sign(negative: bool, value: Value) -> Value
+pub fn with_sign(negative: bool, value: Value) -> Value
     ensures { value_seen result ≡ spec.with_sign negative (value_seen value) }
 {
     if !negative {

@@ -1,7 +1,6 @@
 -- Where a comment ends, as a loop finds it.
-use Rattle.std.proofs.Common.{◌≡◌, ℕ, zero, suc, ◌+◌, ◌-◌, ◌≤◌, ◌<◌, Bool, true, false, not, List, [], ◌∷◌, Option, Some, None}
+use Rattle.std.proofs.Common.{◌≡◌, ℕ, zero, suc, ◌+◌, ◌-◌, ◌≤◌, ◌<◌, true, false, List, [], ◌∷◌, Option, Some, None}
 use Rattle.std.proofs.Common.{length, drop, take, get_or, refl, sym, ap, ◌∙◌, arith}
-use Rattle.std.proofs.Math.Bool.{and-false}
 use Rattle.std.specs.Option.{option_map}
 use Rattle.std.specs.Str.{byte}
 use Rattle.chart_lexer.specs.Bytes.{is_allowed}
@@ -17,11 +16,6 @@ later n (Some m) = Some (n + m)
 later_suc : (n : ℕ) (o : Option ℕ) → later n (option_map suc o) ≡ later (n + 1) o
 later_suc n None = refl
 later_suc n (Some m) = let e : n + suc m ≡ n + 1 + m = omega arith in rw e refl
-
--- none in front
-pub later_zero : (o : Option ℕ) → later 0 o ≡ o
-later_zero None = refl
-later_zero (Some m) = let e : 0 + m ≡ m = omega arith in rw e refl
 
 module _ (s : List ℕ) (i : ℕ) (total : Option ℕ) (lt : i < length s)
     (so_far : later i (comment_rest (drop i s)) ≡ total) where
@@ -66,9 +60,3 @@ at_text_end s i total ge so_far = let e : drop i s ≡ [] = none s i ge in rw e 
     none [] (suc i) le = refl
     none (b ∷ s) zero le = absurd (omega arith)
     none (b ∷ s) (suc i) le = none s i (omega arith)
-
--- what begins with two bytes has two
-pub two_bytes : (a b : ℕ) (s : List ℕ) → begins_with a b s ≡ true → 2 ≤ length s
-two_bytes a b [] h = absurd cc
-two_bytes a b (c ∷ []) h = absurd (let no = rw and-false at h in cc)
-two_bytes a b (c ∷ d ∷ s) h = omega arith

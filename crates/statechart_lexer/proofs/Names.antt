@@ -1,6 +1,6 @@
 -- What is cut as a name is one.
-use Rattle.std.proofs.Common.{◌≡◌, ℕ, zero, suc, ◌<◌, ◌≤◌, Bool, true, false, ◌&&◌, ◌||◌, List, [], ◌∷◌}
-use Rattle.std.proofs.Common.{Option, Some, None, length, take, drop, get_or, refl, sym, ◌∙◌, cond, eqb, ltb, eq-eqb, not, arith}
+use Rattle.std.proofs.Common.{◌≡◌, ℕ, zero, suc, ◌<◌, Bool, true, false, ◌&&◌, ◌||◌, List, [], ◌∷◌}
+use Rattle.std.proofs.Common.{Option, Some, None, length, take, drop, refl, sym, ◌∙◌, cond, eqb, ltb, eq-eqb, not, arith}
 use Rattle.std.specs.Str.{byte}
 use Rattle.std.proofs.lemmas.Bool.{and_from, ltb-false, le-leb, cond_both}
 use Rattle.std.proofs.lemmas.List.{get_or-take}

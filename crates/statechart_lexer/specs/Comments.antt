@@ -1,5 +1,5 @@
 -- Comments of both kinds.
-use Rattle.std.specs.Prelude.{ℕ, suc, ◌+◌, ◌&&◌, Bool, false, not, nat_eq, Option, Some, None, List, [], ◌∷◌, if◌then◌else◌}
+use Rattle.std.specs.Prelude.{ℕ, suc, ◌&&◌, Bool, false, not, nat_eq, Option, Some, None, List, [], ◌∷◌, if◌then◌else◌}
 use Rattle.std.specs.Option.{option_map}
 use Rattle.std.specs.Str.{byte}
 use Rattle.chart_lexer.specs.Bytes.{is_allowed, begins}

@@ -1,13 +1,12 @@
 -- The tokens of a statechart text. Its further words and symbols have kinds that are free in it: the words that of `tick`,
 -- `.` and `|` that of comments, `+= -= *= /= ++` that of `chart`. The text of such a token says which it is. Comments are
 -- no tokens.
-use Rattle.std.specs.Prelude.{◌≡◌, All, IsTrue, ℕ, length, zero, suc, ◌+◌, ◌-◌, ◌<◌, ◌≤◌, Bool, false, not, nat_lt}
+use Rattle.std.specs.Prelude.{ℕ, zero, suc, ◌+◌, ◌-◌, ◌<◌, ◌≤◌, not, nat_lt}
 use Rattle.std.specs.Prelude.{Option, Some, None, List, [], ◌∷◌, take, drop, if◌then◌else◌}
 use Rattle.std.specs.Str.{byte}
 use Rattle.token_grammar.specs.declared.token.Kind.{Kind}
 use Rattle.token_grammar.specs.declared.token.Kind.TheVariants as kinds
 use Rattle.token_grammar.specs.declared.token.Span.{Span}
-use Rattle.chart_lexer.specs.declared.front.Stop.{Stop}
 use Rattle.chart_lexer.specs.declared.front.Stop.TheVariants as stops
 use Rattle.chart_lexer.specs.declared.words.TheConstants.{NAME_LIMIT}
 use Rattle.chart_lexer.specs.Bytes.{is_blank, is_allowed, is_letter, is_digit, is_name_byte, begins}

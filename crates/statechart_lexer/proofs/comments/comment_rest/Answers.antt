@@ -1,5 +1,5 @@
 use Rattle.std.proofs.Common.{sym, ◌∙◌, arith}
-use Rattle.statechart_lexer.proofs.CommentEnds.{at_bad, at_end, goes_on, at_text_end, two_bytes}
+use Rattle.statechart_lexer.proofs.CommentEnds.{at_bad, at_end, goes_on, at_text_end}
 use Rattle.statechart_lexer.proofs.comments.comment_rest.Goals as goal
 
 pub returns-then-not-is_allowed-clause-value : goal.returns-then-not-is_allowed-clause-value

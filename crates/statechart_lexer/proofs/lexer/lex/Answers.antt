@@ -1,4 +1,4 @@
-use Rattle.std.proofs.Common.{ℕ, ◌+◌, ◌<◌, ◌≤◌, length, arith}
+use Rattle.std.proofs.Common.{ℕ, ◌≤◌, length, arith}
 use Rattle.std.proofs.lemmas.List.{map_push, length-take, length-drop}
 use Rattle.token_grammar.specs.Token.{lexemes}
 use Rattle.statechart_lexer.proofs.Cuts.{after_skip, after_token, at_stop}

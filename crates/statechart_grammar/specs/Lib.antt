@@ -1,0 +1,5 @@
+pub mod Words
+pub mod Expressions
+pub mod Transitions
+pub mod Declarations
+pub mod States

@@ -1,0 +1,4 @@
+pub mod Cuts
+pub mod CommentEnds
+pub mod Names
+pub mod TokenNames

@@ -1,0 +1,4 @@
+pub mod Words
+pub mod Symbols
+pub mod Comments
+pub mod Lex

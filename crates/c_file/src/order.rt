@@ -75,12 +75,7 @@ fn place_all(
 
 /// The functions that are reached, of `count`: those that were found, in their order, then all
 /// others.
-fn completed(
-    alloc: Global,
-    reached: &[bool],
-    count: u32,
-    found: &[u32],
-) -> Result<Vec<u32>, Memory>
+fn completed(alloc: Global, reached: &[bool], count: u32, found: &[u32]) -> Result<Vec<u32>, Memory>
     requires { count ≡ length reached.now }
     ensures { IfOk result (λ order. spec.IsOrder reached.now order.items) }
 {

@@ -173,12 +173,7 @@ fn print_wide(out: &mut String, chart: &str, wide: bool) -> Result<(), AllocErro
         (string_bytes out.new ≡ string_bytes out.old ++ spec.wide_text chart.now wide) }
 {
     if wide {
-        print_named(
-            out,
-            "\n__extension__ typedef __int128 ",
-            chart,
-            "int128;\n",
-        )?;
+        print_named(out, "\n__extension__ typedef __int128 ", chart, "int128;\n")?;
         print_named(
             out,
             "__extension__ typedef unsigned __int128 ",

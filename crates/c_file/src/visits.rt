@@ -21,11 +21,7 @@ struct Visits {
 }
 
 /// Of each function the place of its first call, where there is one.
-fn first_calls(
-    alloc: Global,
-    calls: &[FunctionCall],
-    count: usize,
-) -> Result<Vec<usize>, Memory> {
+fn first_calls(alloc: Global, calls: &[FunctionCall], count: usize) -> Result<Vec<usize>, Memory> {
     let mut first = vec![in alloc; calls.len(); count]?;
     for place in (0..calls.len()).rev() {
         if let Some(own) = first.get_mut(calls[place].caller as usize) {
@@ -84,11 +80,7 @@ fn follow(visits: &mut Visits, calls: &[FunctionCall], function: u32) -> Result<
 
 /// An order of functions, those that are called before those that call them. Those that are called
 /// from outside aren't in it.
-pub(crate) fn found_order(
-    alloc: Global,
-    made: &Made<'_>,
-    uses: &Uses,
-) -> Result<Vec<u32>, Memory> {
+pub(crate) fn found_order(alloc: Global, made: &Made<'_>, uses: &Uses) -> Result<Vec<u32>, Memory> {
     let count = uses.reached.len();
     let mut visits = Visits {
         next: first_calls(alloc, &uses.calls, count)?,

@@ -321,7 +321,14 @@ fn print_line(
 {
     match line {
         Line::Set(of, number, expr) => {
-            print_set(out, labels, kind, depth, read_local(lines, *of, *number), expr)
+            print_set(
+                out,
+                labels,
+                kind,
+                depth,
+                read_local(lines, *of, *number),
+                expr,
+            )
         }
         Line::Store(field, expr) => print_store(out, labels, kind, depth, *field, expr),
         Line::StoreAt(row, index, expr) => {

@@ -17,7 +17,7 @@ pub returns : goal.returns
 returns c =
     let end =
     YieldsList-end (YieldsList-from_vec c.args.functions.items (cc) (cc)) c.loop-function.yielded _
-    c.loop-function.yielded_by _ _ c.in-None.is c.next.ensures.steps in
+    c.loop-function.yielded_by _ c.next.new.self c.in-None.is c.next.ensures.steps in
     let all : c.loop-function.yielded ≡ c.args.functions.items = sym (map-id c.loop-function.yielded) ∙ end.0 in
     all_bare c.args.flags.now c.args.functions.items c.loop-function.made.items
     (subst (λ (taken : List Function). AreBareSoFar c.args.flags.now taken c.loop-function.made.items) all

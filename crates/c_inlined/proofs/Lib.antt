@@ -1,0 +1,5 @@
+pub mod Converting
+pub mod GoingOn
+pub mod Inlining
+pub mod Law
+pub mod Reading

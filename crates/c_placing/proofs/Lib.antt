@@ -1,0 +1,4 @@
+pub mod Base
+pub mod Clearer
+pub mod Doing
+pub mod Staying

@@ -57,7 +57,7 @@ none-called : (cases : List Case) → calls_bare [] cases ≡ false
 none-called [] = refl
 none-called (x ∷ cases) = none-called cases
 
-none-selected : (b : Block) → selects_no_bare [] b ≡ true
+pub none-selected : (b : Block) → selects_no_bare [] b ≡ true
 unfolding selects_no_bare
 none-selected c.End = refl
 none-selected (c.Set t i e rest) = none-selected rest

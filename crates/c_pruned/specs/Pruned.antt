@@ -3,6 +3,7 @@ use Rattle.std.specs.Prelude.{Bool, true, false, ◌&&◌, Option, Some, None, m
 use Rattle.c_subset.specs.Trees.{CExpr, Both, Function, File}
 use Rattle.c_subset.specs.Trees.{Block, End, Set, Store, StoreAt, Call, Select, If, While, Return}
 use Rattle.c_trees.specs.Blocks.{is_end}
+use Rattle.c_trees.specs.Sizes.{is_short}
 use Rattle.c_pruned.specs.Tests.{truth_of, negated}
 use Rattle.c_pruned.specs.Ends.{always_returns, then_on, followed_by}
 
@@ -56,9 +57,9 @@ pruned (If e a b rest) = decided_if (truth_of e) e (pruned a) (pruned b) (pruned
 pruned (While e a rest) = While e (pruned a) (pruned rest)
 pruned (Return e) = Return e
 
--- a function
+-- a function, if it isn't long
 abbrev pub pruned_of : Function → Function
-pruned_of f = record f { body = pruned f.body }
+pruned_of f = record f { body = if is_short f.body then pruned f.body else f.body }
 
 -- each function of a file
 abbrev pub with_pruned : File → File

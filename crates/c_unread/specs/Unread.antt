@@ -1,8 +1,9 @@
 -- Statements without sets of locals that nothing reads.
-use Rattle.std.specs.Prelude.{ℕ, Bool, true, false, List, [], map}
+use Rattle.std.specs.Prelude.{ℕ, Bool, true, false, List, [], map, if◌then◌else◌}
 use Rattle.c_subset.specs.declared.trees.CType.{CType}
 use Rattle.c_subset.specs.Trees.{CExpr, Function, File}
 use Rattle.c_subset.specs.Trees.{Block, End, Set, Store, StoreAt, Call, Select, If, While, Return}
+use Rattle.c_trees.specs.Sizes.{is_short}
 use Rattle.c_unread.specs.Live.{LocalName, is_live, without, united, with_read, with_all_read, with_named}
 
 -- statements, and the locals that they, and what comes after them, may read before they are set
@@ -48,9 +49,13 @@ trimmed (While e a rest) live =
     record { block = While e (trimmed a turn).block after.block; live = turn }
 trimmed (Return e) live = record { block = Return e; live = with_read e [] }
 
--- a function without them
+-- a function without them, if it isn't long
 abbrev pub trimmed_of : Function → Function
-trimmed_of f = record { result = f.result; parameters = f.parameters; body = (trimmed f.body []).block }
+trimmed_of f = record {
+  result = f.result;
+  parameters = f.parameters;
+  body = if is_short f.body then (trimmed f.body []).block else f.body;
+}
 
 -- the file of such functions
 abbrev pub with_trimmed : File → File

@@ -1,0 +1,5 @@
+pub mod Combining
+pub mod SendLemmas
+pub mod BlockLemmas
+pub mod FiringLemmas
+pub mod SearchLemmas

@@ -9,6 +9,6 @@ mod reading;
 mod trees;
 mod writing;
 
-pub use reading::{boxed, tree_of};
+pub use reading::{boxed, step, tree_of};
 pub use trees::Tree;
 pub use writing::{is_end, lines_of_tree, put, put_else, write, write_after, write_second};

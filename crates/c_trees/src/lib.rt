@@ -10,7 +10,7 @@ mod sizes;
 mod trees;
 mod writing;
 
-pub use reading::{boxed, tree_of};
+pub use reading::{boxed, step, tree_of};
 pub use sizes::is_short;
 pub use trees::Tree;
 pub use writing::{is_end, lines_of_tree, put, put_else, write, write_after, write_second};

@@ -48,7 +48,7 @@ fn opened(alloc: Global, has_else: bool, below: Stack) -> Result<Stack, Memory>
 }
 
 /// A statement without parts before others; another line changes nothing.
-fn step(line: Line, rest: Box<Tree>) -> Tree
+pub fn step(line: Line, rest: Box<Tree>) -> Tree
     ensures { block_of result ≡ spec.step (line_of line) (block_of rest.value) }
 {
     match line {

@@ -1,0 +1,12 @@
+pub mod Before
+pub mod Elements
+pub mod Kept
+pub mod Deciding
+pub mod Numbering
+pub mod Inquiring
+pub mod Stepping
+pub mod WalkedRight
+pub mod Staying
+pub mod Reaching
+pub mod Making
+pub mod Whole

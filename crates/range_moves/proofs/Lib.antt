@@ -1,0 +1,4 @@
+pub mod MoveLemmas
+pub mod ExitLemmas
+pub mod EnterLemmas
+pub mod TakeLemmas

@@ -1,6 +1,6 @@
 -- Functions that were made one after another are those of a file.
 use Rattle.std.proofs.Common.{◌≡◌, ◌+◌, ◌++◌, ℕ, suc, zero, List, [], ◌∷◌, length, Some, slice_get, refl, sym, ap}
-use Rattle.std.proofs.Common.{subst, arith}
+use Rattle.std.proofs.Common.{◌∙◌, subst, arith}
 use Rattle.c_subset.specs.declared.trees.Function as declared_function
 use Rattle.c_subset.specs.Trees.{Function}
 use Rattle.c_subset.specs.Lines.{IsFunction}
@@ -117,9 +117,11 @@ all-made P p (f ∷ fs) (m ∷ ms) (g ∷ gs) h n each =
 pub functions_made : (P : Plan) (fs ms : List declared_function.Function) (gs : List Function) → AreMadeFrom P 0 fs ms
     → AreFunctions fs gs → AreMadeFunctions P gs ms
 functions_made P fs ms gs h are =
-    let all = all-made P 0 fs ms gs h are.count are.each in (
-      all.made,
-      all.are,
-      λ i g there. let (g', at, is) = all.each i g there in
-          (g', at, subst (λ (k : ℕ). IsMade P k g g') (omega arith) is),
-    )
+    let all = all-made P 0 fs ms gs h are.count are.each in record {
+      functions = all.made;
+      are = all.are;
+      count = sym all.are.count ∙ same_count P 0 fs ms h ∙ are.count;
+      each =
+          λ i g there. let (g', at, is) = all.each i g there in
+          (g', at, subst (λ (k : ℕ). IsMade P k g g') (omega arith) is);
+    }

@@ -62,6 +62,7 @@ between = chart_known (OneOf (2 ∷ []) (5 ∷ [])) (OneOf (3 ∷ 4 ∷ []) (0 �
 abbrev pub inside : Known
 inside = chart_known (OneOf (2 ∷ []) []) (OneOf (4 ∷ []) []) (OneOf [] (0 ∷ []))
 
+-- each function begins with what is known between events, and leaves that where it returns 0; where 1, child 4 is active
 abbrev pub plan : Plan
 plan = record {
   begins = λ p. between;

@@ -28,6 +28,7 @@ abbrev pub known_at : List Numbered → Known → Option ℤ → Known
 known_at [] others v = others
 known_at (c ∷ cs) others v = if is_value v c.number then c.known else known_at cs others v
 
+-- what is known where the value is that one
 abbrev pub at : ByNumber → Option ℤ → Known
 at b v = known_at b.cases b.others v
 

@@ -33,6 +33,7 @@ AreMade P fs fs' = (p : ℕ) (f : Function) → slice_get fs p ≡ Some f
 pub record FileIsMade (P : Plan) (file file' : File) : Type 0 where
   pub fields : file'.fields ≡ file.fields
   pub rows : file'.rows ≡ file.rows
+  pub count : length file'.functions ≡ length file.functions
   pub each : AreMade P file.functions file'.functions
 
 -- ---- functions of the code
@@ -41,6 +42,7 @@ pub record FileIsMade (P : Plan) (file file' : File) : Type 0 where
 abbrev pub body_of : Plan → ℕ → CType → Block → Block
 body_of P p result a = (walked P p result a (alone (P.begins p))).block
 
+-- the plan is right for a body
 abbrev pub is_right : Plan → ℕ → CType → Block → Bool
 is_right P p result a = (walked P p result a (alone (P.begins p))).right
 
@@ -59,9 +61,12 @@ pub record AreFunctions (fs : List declared_function.Function) (gs : List Functi
   pub each : (i : ℕ) (f : declared_function.Function) (g : Function) → slice_get fs i ≡ Some f
       → slice_get gs i ≡ Some g → IsFunction f g
 
--- these are functions with decided tests
-abbrev pub AreMadeFunctions : Plan → List Function → List declared_function.Function → Type 0
-AreMadeFunctions P fs made = (fs' : List Function) × AreFunctions made fs' × AreMade P fs fs'
+-- these are as many functions, with decided tests
+pub record AreMadeFunctions (P : Plan) (fs : List Function) (made : List declared_function.Function) : Type 0 where
+  pub functions : List Function
+  pub are : AreFunctions made functions
+  pub count : length functions ≡ length fs
+  pub each : AreMade P fs functions
 
 -- ---- what it is for
 

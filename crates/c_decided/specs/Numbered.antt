@@ -23,6 +23,7 @@ abbrev pub each_case : (Known → Known) → List Numbered → List Numbered
 each_case f [] = []
 each_case f (c ∷ cs) = record { number = c.number; known = f c.known } ∷ each_case f cs
 
+-- of each number, and of the others, something else
 abbrev pub each : (Known → Known) → ByNumber → ByNumber
 each f b = record { cases = each_case f b.cases; others = f b.others }
 
@@ -31,6 +32,7 @@ abbrev pub all_cases : List Numbered → Known → Known
 all_cases [] others = others
 all_cases (c ∷ cs) others = joined c.known (all_cases cs others)
 
+-- what is known whatever the value is
 abbrev pub all_of : ByNumber → Known
 all_of b = all_cases b.cases b.others
 
@@ -39,6 +41,7 @@ abbrev pub are_never : List Numbered → Bool
 are_never [] = true
 are_never (c ∷ cs) = if is_never c.known then are_never cs else false
 
+-- no run comes here, whatever the value is
 abbrev pub is_nowhere : ByNumber → Bool
 is_nowhere b = if is_never b.others then are_never b.cases else false
 
@@ -62,6 +65,7 @@ joined_cases [] b more = more
 joined_cases (c ∷ cs) b more =
     record { number = c.number; known = joined c.known (at b (Some (pos c.number))) } ∷ joined_cases cs b more
 
+-- by the number, what holds in one of both
 abbrev pub joined_by : ByNumber → ByNumber → ByNumber
 joined_by a b = record {
   cases = joined_cases a.cases b (added a.cases a.others b.cases);
@@ -74,6 +78,7 @@ joined_both F G =
     if is_local F.type F.local G then record { type = F.type; local = F.local; by = joined_by F.by G.by }
     else alone (joined (all_of F.by) (all_of G.by))
 
+-- what holds if one of both holds, where a run comes to that one
 abbrev pub joined_facts : Facts → Facts → Facts
 joined_facts F G = if is_nowhere F.by then G else (if is_nowhere G.by then F else joined_both F G)
 
@@ -84,6 +89,7 @@ abbrev pub cases_cover : List Numbered → ByNumber → Bool
 cases_cover [] b = true
 cases_cover (c ∷ cs) b = if covers c.known (at b (Some (pos c.number))) then cases_cover cs b else false
 
+-- for each number of the second ones the second one holds where the first one does
 abbrev pub cover_cases : ByNumber → List Numbered → Bool
 cover_cases a [] = true
 cover_cases a (d ∷ ds) = if covers (at a (Some (pos d.number))) d.known then cover_cases a ds else false
@@ -101,6 +107,7 @@ fits (Signed w) n = false
 fits (Unsigned w) n = nat_lt n (limit w)
 fits Truth n = nat_lt n 2
 
+-- each of the numbers is one of the type
 abbrev pub all_fit : CType → List Numbered → Bool
 all_fit t [] = true
 all_fit t (c ∷ cs) = if fits t c.number then all_fit t cs else false
@@ -177,6 +184,7 @@ asks (Choose t c a b) = None
 abbrev pub narrowed_case : CType → Bool → ℕ → ℕ → Known → Known
 narrowed_case t way n c k = if fits t c && not (agrees way (c == n)) then Never else k
 
+-- so for each of the numbers
 abbrev pub narrowed : CType → Bool → ℕ → List Numbered → List Numbered
 narrowed t way n [] = []
 narrowed t way n (c ∷ cs) =

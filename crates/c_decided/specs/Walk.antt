@@ -28,6 +28,7 @@ narrowed_facts way q F = record {
 abbrev pub each_fact : (Known → Known) → Facts → Facts
 each_fact f F = record { type = F.type; local = F.local; by = each f F.by }
 
+-- after a test that came out so: by the number, where it asks for the number of that local
 abbrev pub inquired : Bool → CExpr → Option Inquiry → Facts → Facts
 inquired way e None F = each_fact (tested way e) F
 inquired way e (Some q) F =
@@ -108,6 +109,7 @@ pub record Walked : Type 0 where
 abbrev pub unreached : Bool → Block → Walked
 unreached stays a = record { right = true; block = if stays then a else End; after = alone Never }
 
+-- statements that no run comes to go; of others it is said what is made of them
 abbrev pub reached : Bool → Block → Facts → Walked → Walked
 reached stays a F r = if is_nowhere F.by then unreached stays a else r
 
@@ -136,6 +138,7 @@ abbrev pub looped : CExpr → Walked → Walked → Walked
 looped e r o = record { right = r.right && o.right; block = While e r.block o.block; after = o.after }
 
 module _ (P : Plan) (p : ℕ) (result : CType) where
+  -- statements are gone through from the facts before them on
   unfoldable pub walked : Block → Facts → Walked
   walked End F = reached (P.stays p) End F (record { right = true; block = End; after = F })
   walked (Set t i e a) F =

@@ -14,10 +14,11 @@ mod plan;
 mod steps;
 mod walking;
 
-pub use by_number::at;
+pub use by_number::{all_of, at, brought, covers_by, framed_by, is_nowhere, joined_by};
 pub use file::decided_functions;
 pub use functions::decided_function;
 pub use inquiries::same_type;
 pub use laws::{decided_tests_keep_calls, tests_of_small_bodies_are_decided};
 pub use plan::{ByNumber, Cases, Facts, FunctionFacts, Plan};
+pub use steps::{after_set, after_store, alone, by_value, copied_facts, joined_facts, test};
 pub use walking::{Unfit, find};

@@ -14,6 +14,7 @@ use Rattle.actions.specs.declared.event.Event.TheVariants as events
 use Rattle.actions.specs.declared.expr.Value.{Value}
 use Rattle.actions.specs.declared.names.Sort.{Sort}
 use Rattle.actions.specs.Data.{Datum, datum, with_mantissa, mantissa_in}
+use Rattle.actions.specs.Engines.{IsInputEvent}
 use Rattle.actions.specs.Runs.{Moment, EventWithInputs, AreInputValues, AreSet, CanBeGiven, ReactsWithInputs}
 use Rattle.actions.specs.Runs.{UnlessFaulted, GoesOn}
 use Rattle.actions.specs.World.{World, Fits, Declaration, begun, world_before}
@@ -272,29 +273,45 @@ module _ (k : Code) (T : Tests) (b : Bounds) (room : ℕ) (bodies : ℕ → plan
 
     -- ---- refusals
 
+    -- a call that is refused returns false, and calls no function
+    abbrev RefusedAtOnce : ℕ → List CValue → Store → Store → Type 0
+    RefusedAtOnce f args s t = call file int 1 f args s ≡ Returns t (record { type = Truth; value = one_if false })
+
     -- a call of a reaction that is refused
     react-refused : (s t : Store) (e : ℕ) → e < 2 ^ 32
         → outcome int (call file int 0) 0 (refuse_c K (clear_counts_c K (outside_c k.procedures.react event_local))) s
         (with_local no_locals word 0 (pos e)) ≡ Returns t (record { type = Truth; value = pos 0 })
-        → Leaves file int (react_function K) (unsigned W32 e ∷ []) s false t
+        → RefusedAtOnce (react_function K) (unsigned W32 e ∷ []) s t
     unfolding call
     react-refused s t e small goes =
         let calls = call file int 0 in
         let body = (react_c K k.procedures.react).body in
         let l : Locals = with_local no_locals word 0 (pos e) in
-        record {
-          fuel = 1;
-          gives =
-              ap (λ (o : Option Function). run_c int calls 0 o (unsigned W32 e ∷ []) s) react-there
-              ∙ argument-goes [] e [] 0 no_locals (λ l. returned Truth (outcome int calls 0 body s l)) small
-              ∙ arguments-end 1 l (λ l. returned Truth (outcome int calls 0 body s l))
-              ∙ ap (returned Truth) goes;
-        }
+        ap (λ (o : Option Function). run_c int calls 0 o (unsigned W32 e ∷ []) s) react-there
+        ∙ argument-goes [] e [] 0 no_locals (λ l. returned Truth (outcome int calls 0 body s l)) small
+        ∙ arguments-end 1 l (λ l. returned Truth (outcome int calls 0 body s l))
+        ∙ ap (returned Truth) goes
+
+    -- a reaction where no run goes on, and one to a number that is no event
+    pub not-running-refused : (s : Store) (e : ℕ) → e < 2 ^ 32 → HasWord s.fields (ready_field K) 0
+        → RefusedAtOnce (react_function K) (unsigned W32 e ∷ []) s s
+    not-running-refused s e small ready =
+        react-refused s s e small (unready-refused K int most few (call file int 0) 0 s _ e small refl _ ready)
+
+    pub no-event-refused : (s : Store) (moment : Moment) (e : ℕ) → e < 2 ^ 32 → ShowsMoment K moment s
+        → moment.fault ≡ None → ¬ IsInputEvent K.names e → e ≢ event_number K.names events.Tick
+        → RefusedAtOnce (react_function K) (unsigned W32 e ∷ []) s (with_fault K s refused_number 0)
+    no-event-refused s moment e small shows none no_input no_tick =
+        let shown : Represents K None shows.memory s =
+        subst (λ (x : Option Fault). Represents K x shows.memory s) none shows.represents in
+        react-refused s (with_fault K s refused_number 0) e small
+        (unknown-refused K int most few (call file int 0) 0 s _ e small refl _ _ _ shown.fault_is shown.datum_is
+        shown.ready_is no_input no_tick)
 
     -- a start that is refused
-    start-refused : (s : Store) (ready fault : ℕ) → HasWord s.fields (ready_field K) ready
+    pub start-refused : (s : Store) (ready fault : ℕ) → HasWord s.fields (ready_field K) ready
         → HasWord s.fields (fault_field K) fault → (ready ≢ 0) ⊎ (fault ≢ 0)
-        → Leaves file int (start_function K) [] s false s
+        → RefusedAtOnce (start_function K) [] s s
     unfolding call
     start-refused s ready fault hr hf some =
         let calls = call file int 0 in
@@ -303,15 +320,11 @@ module _ (k : Code) (T : Tests) (b : Bounds) (room : ℕ) (bodies : ℕ → plan
         subst (λ (b : Bool). Has int s no_locals (is_begun_c K) (one_if b))
         (some-set (nat_eq ready 0) (nat_eq fault 0) refl refl some)
         (begun-has int most s no_locals K ready fault hr hf) in
-        record {
-          fuel = 1;
-          gives =
-              ap (λ (o : Option Function). run_c int calls 0 o [] s) start-there
-              ∙ arguments-end 0 no_locals (λ l. returned Truth (outcome int calls 0 body s l))
-              ∙ ap (returned Truth)
-              (if-taken int most calls 0 _ s no_locals (is_begun_c K) (answer_c false) s _ has
-              (answer-returns int calls 0 false s no_locals));
-        }
+        ap (λ (o : Option Function). run_c int calls 0 o [] s) start-there
+        ∙ arguments-end 0 no_locals (λ l. returned Truth (outcome int calls 0 body s l))
+        ∙ ap (returned Truth)
+        (if-taken int most calls 0 _ s no_locals (is_begun_c K) (answer_c false) s _ has
+        (answer-returns int calls 0 false s no_locals))
       where
         some-set : (a b : Bool) → nat_eq ready 0 ≡ a → nat_eq fault 0 ≡ b → (ready ≢ 0) ⊎ (fault ≢ 0)
             → (not a || not b) ≡ true
@@ -322,16 +335,10 @@ module _ (k : Code) (T : Tests) (b : Bounds) (room : ℕ) (bodies : ℕ → plan
 
     pub refuses : Refuses K file int
     refuses = record {
-      not_running = λ s e small ready.
-          react-refused s s e small
-          (unready-refused K int most few (call file int 0) 0 s _ e small refl _ ready);
+      not_running = λ s e small ready. record { fuel = 1; gives = not-running-refused s e small ready };
       no_event = λ s moment e small shows none no_input no_tick.
-          let shown : Represents K None shows.memory s =
-          subst (λ (x : Option Fault). Represents K x shows.memory s) none shows.represents in
-          react-refused s (with_fault K s refused_number 0) e small
-          (unknown-refused K int most few (call file int 0) 0 s _ e small refl _ _ _ shown.fault_is shown.datum_is
-          shown.ready_is no_input no_tick);
-      second_start = start-refused;
+          record { fuel = 1; gives = no-event-refused s moment e small shows none no_input no_tick };
+      second_start = λ s ready fault hr hf some. record { fuel = 1; gives = start-refused s ready fault hr hf some };
     }
 
     -- ---- runs

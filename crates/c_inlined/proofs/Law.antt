@@ -17,7 +17,8 @@ use Rattle.c_placing.specs.Placing.{placed, ReturnAlike, HasPlaced}
 use Rattle.c_placing.proofs.Base.{as-it-is}
 use Rattle.c_placing.proofs.Doing.{Places, placed-places}
 use Rattle.c_inlined.specs.Inlined.{IsInlinedFunction, FileIsInlined, with_function}
-use Rattle.c_inlined.proofs.Inlining.{Keeps, inlined-keeps}
+use Rattle.c_inlined.specs.Files.{IsInlinedFile, AsItIs, Further}
+use Rattle.c_inlined.proofs.Keeping.{Keeps, inlined-keeps}
 
 -- ---- functions
 
@@ -149,3 +150,23 @@ module _ (file : File) (p : ℕ) (f' : Function) (is : FileIsInlined file p f') 
 
   pub refuses-as : (K : Shape) → Refuses K file int → Refuses K made int
   refuses-as K = refuses-on K file made int (λ f. kept f []) (λ x. kept (react_function K) (x ∷ []))
+
+-- ---- one function after the other
+
+module _ (file : File) (int : Width) where
+  pub all-alike : (made : File) → IsInlinedFile file made → (k : ℕ) → ReturnAlike (call file int k) (call made int k)
+  all-alike _ AsItIs k f xs s after x e = e
+  all-alike _ (Further p f' made first is) k f xs s after x e =
+      calls-alike made p f' is int k f xs s after x (all-alike made first k f xs s after x e)
+
+  pub all-run : (made : File) → IsInlinedFile file made → (K : Shape) (s : Store) (given : List (Option Value))
+      (events : List EventWithInputs) (moments : List Moment) → RunsOn K file int s given events moments
+      → RunsOn K made int s given events moments
+  all-run _ AsItIs K s given events moments run = run
+  all-run _ (Further p f' made first is) K s given events moments run =
+      runs-as made p f' is int K s given events moments (all-run made first K s given events moments run)
+
+  pub all-refuse : (made : File) → IsInlinedFile file made → (K : Shape) → Refuses K file int → Refuses K made int
+  all-refuse _ AsItIs K refuses = refuses
+  all-refuse _ (Further p f' made first is) K refuses =
+      refuses-as made p f' is int K (all-refuse made first K refuses)

@@ -1,5 +1,9 @@
+pub mod ContinuedLemmas
 pub mod Converting
+pub mod FileLemmas
 pub mod GoingOn
-pub mod Inlining
+pub mod Keeping
 pub mod Law
-pub mod Reading
+pub mod Making
+pub mod Meanings
+pub mod ReplacingLemmas

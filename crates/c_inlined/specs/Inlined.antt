@@ -4,9 +4,11 @@ use Rattle.std.specs.Prelude.{if◌then◌else◌}
 use Rattle.std.specs.List.{list_all}
 use Rattle.c_subset.specs.declared.trees.CType.{CType}
 use Rattle.c_subset.specs.declared.trees.Case.{Case}
+use Rattle.c_subset.specs.declared.trees.Function as declared_function
 use Rattle.c_subset.specs.Trees.{CExpr, Const, Field, Element, Local, Cast, Minus, Bang, Calc, Divide, Bits, Compare}
 use Rattle.c_subset.specs.Trees.{Both, Either, Choose, Function, File}
 use Rattle.c_subset.specs.Trees.{Block, End, Set, Store, StoreAt, Call, Select, If, While, Return}
+use Rattle.c_subset.specs.Lines.{IsFunction}
 use Rattle.c_subset.specs.Running.{same_type}
 use Rattle.c_placing.specs.Placing.{placed, set_parameters}
 use Rattle.c_inlined.specs.Continued.{before, can_go_on, continued}
@@ -95,14 +97,19 @@ module _ (functions : List Function) (p : ℕ) (result : CType) (n : ℕ) where
         → slice_get functions f ≡ Some g → length args ≡ length g.parameters → g.result ≡ result
         → IsInlined (Call result i f args (Return (Local result i))) (handed_on n g args)
 
--- The second function is the first one, function p of these, where calls in it are replaced by bodies. Their locals have
--- numbers above those of which the first one reads.
+-- The second function is the first one, function p of these, where calls in it are replaced by bodies. Their locals
+-- have numbers above those of which the first one reads.
 pub record IsInlinedFunction (functions : List Function) (p : ℕ) (f f' : Function) : Type 0 where
   pub result : f'.result ≡ f.result
   pub parameters : f'.parameters ≡ f.parameters
   pub base : ℕ
   pub below : block_reads_below base f.body ≡ true
   pub body : IsInlined functions p f.result base f.body f'.body
+
+-- a function of the code is function p of these, where calls in it are replaced
+abbrev pub IsMadeOf : List Function → ℕ → declared_function.Function → Type 0
+IsMadeOf functions p made = (g : Function) → slice_get functions p ≡ Some g
+    → (g' : Function) × IsFunction made g' × IsInlinedFunction functions p g g'
 
 -- ---- files
 

@@ -1,2 +1,3 @@
 pub mod Continued
+pub mod Files
 pub mod Inlined

@@ -1,4 +1,5 @@
 pub mod Base
 pub mod Clearer
 pub mod Doing
+pub mod PlacedLemmas
 pub mod Staying

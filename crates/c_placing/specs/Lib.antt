@@ -1,1 +1,2 @@
+pub mod PlacedLines
 pub mod Placing

@@ -5,5 +5,9 @@
 #![tactic(auto)]
 
 mod laws;
+mod placing;
+mod setting;
 
 pub use laws::placed_statements_do_the_same;
+pub use placing::{NotPlaced, placed};
+pub use setting::with_parameters;

@@ -24,7 +24,7 @@ use Rattle.c_inlined.specs.Inlined.{handed_on, IsInlined, Ends, Sets, Stores, St
 use Rattle.c_inlined.specs.Inlined.{Asks, Turns, Returning, Opened, HandedOn}
 use Rattle.c_inlined.proofs.Converting.{value-of, converted-stays, type-is}
 use Rattle.c_inlined.proofs.GoingOn.{both, before-on, Goes, goes-on}
-use Rattle.c_inlined.proofs.Reading.{means-same}
+use Rattle.c_inlined.proofs.Meanings.{means-same}
 
 -- ---- locals
 

@@ -16,7 +16,7 @@ use crate::life::Life;
 use actions::{Event, Stmt};
 use checked_chart::{Dest, Trans};
 use range_rules::Around;
-use range_worlds::{Guarded, Lack, Setting, guard, union};
+use range_worlds::{Guarded, Lack, Setting, guard, union, use_step};
 
 /// A destination that a search may find.
 #[derive(Drop)]
@@ -378,8 +378,9 @@ fn reached<'a>(
 
 /// Searches a list of transitions in order, from each world of some sets; a junction's list comes
 /// before the rest. At most `deep` transitions may be looked at on one way through the lists, a way
-/// around a cycle of junctions among them: else the answer is `Unknown`. Other answers: those of
-/// `guard` and `block`, and `Unknown` where there is no junction of a number.
+/// around a cycle of junctions among them: else the answer is `Unknown`. Each of them is a step of the
+/// check, and where none is left the answer is `GivenUp`. Other answers: those of `guard` and
+/// `block`, and `Unknown` where there is no junction of a number.
 #[cycle(searching)]
 pub fn search<'a>(
     setting: &Setting<'a>,
@@ -400,6 +401,7 @@ pub fn search<'a>(
         None => Ok(nothing(setting, xs)),
         Some((first, rest)) => {
             let room = one_less(deep)?;
+            use_step(setting)?;
             let sides = enabled(setting, xs, first, now)?;
             let Guarded { yes, no } = sides;
             let ran = block(setting, yes, life, first.cond.items(), now)?;

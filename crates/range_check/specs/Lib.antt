@@ -1,0 +1,4 @@
+pub mod Went
+pub mod Checks
+pub mod Places
+pub mod Runs

@@ -15,7 +15,7 @@ use Rattle.c_bare.proofs.Runs.{IsKept, runs-on, refuses-on}
 
 module _ (flags : List Bool) (file : File) (is : AreNeedless flags file.functions) where
   -- a call that hands nothing over stays as it is
-  starts : (int : Width) (f : ℕ) → IsKept int file (with_bare flags file) f []
+  pub starts : (int : Width) (f : ℕ) → IsKept int file (with_bare flags file) f []
   starts int f k s after x e =
       at (is_bare flags f) (calls-alike flags file is int k f [] s after x e)
     where
@@ -25,7 +25,7 @@ module _ (flags : List Bool) (file : File) (is : AreNeedless flags file.function
       at false e = e
 
   -- and so does one of a function that isn't bare
-  reacts : (int : Width) (f : ℕ) → is_bare flags f ≡ false → (y : CValue)
+  pub reacts : (int : Width) (f : ℕ) → is_bare flags f ≡ false → (y : CValue)
       → IsKept int file (with_bare flags file) f (y ∷ [])
   reacts int f kept y k s after x e =
       subst (λ (b : Bool). call (with_bare flags file) int k f (cond b [] (y ∷ [])) s ≡ Returns after x) kept

@@ -11,5 +11,5 @@ mod search;
 
 pub use functions::{bare_function, is_needless};
 pub use laws::bare_functions_run_as_before;
-pub use needs::is_it;
+pub use needs::{is_it, is_same};
 pub use search::bare_functions;

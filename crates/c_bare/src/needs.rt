@@ -43,7 +43,7 @@ fn is_truth(of: CType) -> bool
 }
 
 /// Whether both are one type.
-fn is_same(left: CType, right: CType) -> bool
+pub fn is_same(left: CType, right: CType) -> bool
     ensures { result ≡ same_type left right }
 {
     match left {

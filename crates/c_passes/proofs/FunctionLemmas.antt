@@ -1,6 +1,7 @@
 -- The functions of the code are those of the file.
-use Rattle.std.proofs.Common.{◌≡◌, ◌+◌, ◌<◌, ◌≤◌, ℕ, zero, suc, Bool, false, List, [], ◌∷◌, ◌++◌, length, map, refl, sym, ap, ◌∙◌}
+use Rattle.std.proofs.Common.{◌≡◌, ◌+◌, ◌<◌, ℕ, zero, suc, nat_lt, Bool, true, false, cond, List, [], ◌∷◌, ◌++◌, length, map, refl, sym, ap, ◌∙◌}
 use Rattle.std.proofs.Common.{arith, subst, slice_get, get_or, Some, below_more}
+use Rattle.std.proofs.lemmas.Bool.Decides.{nat_tests}
 use Rattle.std.proofs.lemmas.List.{length-append}
 use Rattle.std.proofs.lemmas.Option.{slice_get_within, slice_get-get_or}
 use Rattle.std.specs.List.{range_with_len}
@@ -19,14 +20,17 @@ use Rattle.c_functions.specs.Plans.{Shape, Tests, react_function}
 use Rattle.c_functions.specs.Files.{shape_of, functions_c, procedure_c}
 use Rattle.c_functions.specs.Starts.{file_of}
 use Rattle.c_functions.proofs.FilesFunctions.{range-length}
-use Rattle.c_loops.specs.Loops.{looped, loops_from}
+use Rattle.c_decided.specs.Decided.{Plan}
+use Rattle.c_decided.specs.Made as decided
+use Rattle.c_decided_runs.specs.Runs.{IsBetween}
+use Rattle.c_loops.specs.Loops.{looped, loops_from, with_loops}
 use Rattle.c_bare.specs.Needs.{is_bare}
 use Rattle.c_bare.specs.Bare.{AreFunctions, AreNeedless, bared, bared_from, with_bare}
 use Rattle.c_unread.specs.Unread.{trimmed_of, with_trimmed}
 use Rattle.c_pruned.specs.Pruned.{pruned_of, with_pruned}
 use Rattle.c_writer.specs.Functions.{IsAt, IsShapeOf}
-use Rattle.c_passes.specs.Passed.{function_of, functions_in, written_file, looped_file, ArePassed, AsItIs, Looped}
-use Rattle.c_passes.specs.Passed.{Bared, Trimmed, Pruned}
+use Rattle.c_passes.specs.Passed.{function_of, functions_in, written_file, looped_below, ArePassed, AsItIs}
+use Rattle.c_passes.specs.Passed.{Decided, Looped, Bared, Trimmed, Pruned}
 use Rattle.c_passes.proofs.HeadLemmas.{loops_count, bare_count, map_count}
 
 -- ---- how many there are
@@ -49,68 +53,18 @@ file_count k T b room bodies =
     length-append (functions_c (shape_of k T b room) bodies) _ in
     omega (arith, all, first_count k T b room bodies)
 
-pub functions_count : (K : Shape) (k : Code) → IsShapeOf K k → K.procs + 11 ≡ length (looped_file K k).functions
+pub functions_count : (K : Shape) (k : Code) → IsShapeOf K k → K.procs + 11 ≡ length (written_file K k).functions
 functions_count K k is =
-    ap (λ (H : Shape). H.procs + 11) is
-    ∙ sym (loops_count (written_file K k).functions 0 (length k.procedures.procs)
-    ∙ file_count k K.tests K.bounds K.outputs (plans_of k))
+    ap (λ (H : Shape). H.procs + 11) is ∙ sym (file_count k K.tests K.bounds K.outputs (plans_of k))
 
--- ---- loops
+-- ---- one function
 
 -- there is one function at a place
-one_function : (functions : List Function) (n : ℕ) (f : declared.Function) (g : Function)
+pub one_function : (functions : List Function) (n : ℕ) (f : declared.Function) (g : Function)
     → IsAt functions n f → slice_get functions n ≡ Some g → IsFunction f g
 one_function functions n f g at there = subst (IsFunction f) (some_is (sym at.there ∙ there)) at.is where
   some_is : Some at.function ≡ Some g → at.function ≡ g
   some_is e = cc
-
--- the first one
-loop_first : (p m : ℕ) (f g : Function) → p ≡ m → Some f ≡ Some g → Some (looped p f) ≡ Some (looped m g)
-loop_first p m f g same there = cc
-
--- one of the first so many functions, as a loop where it may be one
-loop_at : (fs : List Function) (p n i m : ℕ) (g : Function) → m ≡ p + i → i < n → slice_get fs i ≡ Some g
-    → slice_get (loops_from p n fs) i ≡ Some (looped m g)
-loop_at fs p zero i m g e within there = absurd (omega (arith, within))
-loop_at [] p (suc n) zero m g e within there = absurd cc
-loop_at [] p (suc n) (suc i) m g e within there = absurd cc
-loop_at (f ∷ fs) p (suc n) zero m g e within there =
-    loop_first p m f g (omega (arith, e)) there
-loop_at (f ∷ fs) p (suc n) (suc i) m g e within there =
-    loop_at fs (suc p) n i m g (omega (arith, e)) (omega (arith, within)) there
-
--- a function after these is as it was
-past_loops : (fs : List Function) (p n i : ℕ) → n ≤ i → slice_get (loops_from p n fs) i ≡ slice_get fs i
-past_loops fs p zero i past = refl
-past_loops [] p (suc n) i past = refl
-past_loops (f ∷ fs) p (suc n) zero past = absurd (omega (arith, past))
-past_loops (f ∷ fs) p (suc n) (suc i) past = past_loops fs (suc p) n i (omega (arith, past))
-
-module _ (K : Shape) (k : Code) (is : IsShapeOf K k) (i : ℕ) (f : declared.Function)
-    (at : IsAt (written_file K k).functions i f) where
-  procs_are : K.procs ≡ length k.procedures.procs
-  procs_are = ap (λ (H : Shape). H.procs) is
-
-  -- a function after those of procedures is that of the file
-  pub plain_is : K.procs ≤ i → (g : Function) → slice_get (looped_file K k).functions i ≡ Some g → IsFunction f g
-  plain_is past g there =
-      one_function (written_file K k).functions i f g at
-      (sym (past_loops (written_file K k).functions 0 (length k.procedures.procs) i (omega (arith, past, procs_are)))
-      ∙ there)
-
-  -- so is one of a procedure that was made a loop where it may be one
-  pub loop_is : (made : declared.Function) → i < K.procs
-      → ((g : Function) → IsFunction f g → IsFunction made (looped i g))
-      → (g : Function) → slice_get (looped_file K k).functions i ≡ Some g → IsFunction made g
-  loop_is made within makes g there =
-      one_function (looped_file K k).functions i made g
-      (record {
-        function = looped i at.function;
-        there =
-            loop_at (written_file K k).functions 0 (length k.procedures.procs) i i at.function (omega arith)
-            (omega (arith, within, procs_are)) at.there;
-        is = makes at.function at.is;
-      }) there
 
 -- ---- one after the other
 
@@ -343,26 +297,104 @@ all_bare flags taken fs so_far gs are = record {
       (so_far.each i t.function f t.there there has.function (are.each i t.function has.function t.there has.there));
 }
 
+-- ---- loops
+
+-- a function with a number in the file where the first so many are loops where they may be
+record IsLoopedAt (n : ℕ) (gs : List Function) (i m : ℕ) (g : Function) : Type 0 where
+  function : Function
+  there : slice_get gs i ≡ Some function
+  is : looped_below n m function ≡ g
+
+looped_at : (n left : ℕ) (gs : List Function) (p i m : ℕ) (g : Function) → n ≡ p + left → m ≡ p + i
+    → slice_get (loops_from p left gs) i ≡ Some g → IsLoopedAt n gs i m g
+looped_at n zero gs p i m g all e there = record {
+  function = g;
+  there = there;
+  is = ap (λ (b : Bool). cond b (looped m g) g) (past (nat_lt m n) refl);
+} where
+  past : (b : Bool) → nat_lt m n ≡ b → b ≡ false
+  past true less = absurd (grind (arith, nat_tests))
+  past false less = refl
+looped_at n (suc left) [] p zero m g all e there = absurd cc
+looped_at n (suc left) [] p (suc i) m g all e there = absurd cc
+looped_at n (suc left) (x ∷ gs) p zero m g all e there = record {
+  function = x;
+  there = refl;
+  is =
+      ap (λ (b : Bool). cond b (looped m x) x) (below (nat_lt m n) refl)
+      ∙ ap (λ (q : ℕ). looped q x) (first e) ∙ some_is there;
+} where
+  first : m ≡ p + 0 → m ≡ p
+  first e = omega (arith, e)
+
+  some_is : Some (looped p x) ≡ Some g → looped p x ≡ g
+  some_is e = cc
+
+  below : (b : Bool) → nat_lt m n ≡ b → b ≡ true
+  below true less = refl
+  below false less = absurd (grind (arith, nat_tests))
+looped_at n (suc left) (x ∷ gs) p (suc i) m g all e there =
+    let rest = looped_at n left gs (suc p) i m g (omega (arith, all)) (omega (arith, e)) there in
+    record { function = rest.function; there = rest.there; is = rest.is }
+
+-- when all were taken, they are those of that file
+pub all_looped : (n : ℕ) (taken fs : List declared.Function) → AreTurnedSoFar (looped_below n) taken fs
+    → (gs : List Function) → AreFunctions taken gs → AreFunctions fs (loops_from 0 n gs)
+all_looped n taken fs so_far gs are = record {
+  count = so_far.count ∙ are.count ∙ sym (loops_count gs 0 n);
+  each =
+      λ i f g there at. let has : IsLoopedAt n gs i i g = looped_at n n gs 0 i i g (omega arith) (omega arith) at in
+      let t : IsTaken taken i = taken_at (looped_below n) taken fs so_far i f there in
+      subst (IsFunction f) has.is
+      (so_far.each i t.function f t.there there has.function (are.each i t.function has.function t.there has.there));
+}
+
+-- ---- what passes make, up to decided tests
+
+-- the functions that are written, as loops where they may be
+pub as_looped : (K : Shape) (file : File) (written made : List declared.Function) → AreFunctions written file.functions
+    → ((gs : List Function) → AreFunctions written gs → AreFunctions made (loops_from 0 K.procs gs))
+    → ArePassed K file made
+as_looped K file written made are loop = record {
+  made = with_loops K.procs file;
+  passed = Looped K.procs file AsItIs (omega arith);
+  are = loop file.functions are;
+}
+
+-- those in which tests are decided
+pub as_decided : (K : Shape) (file : File) (P : Plan) (begun made : List declared.Function) → ArePassed K file begun
+    → IsBetween K P
+    → ((gs : List Function) → decided.AreFunctions begun gs → decided.AreMadeFunctions P gs made) → ArePassed K file made
+as_decided K file P begun made begin between makes =
+    let are : decided.AreMadeFunctions P begin.made.functions made =
+    makes begin.made.functions (record { count = begin.are.count; each = begin.are.each }) in
+    let after : File = record begin.made { functions = are.functions } in record {
+      made = after;
+      passed =
+          Decided P begin.made after begin.passed
+          (record { fields = refl; rows = refl; count = are.count; each = are.each }) between;
+      are = record { count = are.are.count; each = are.are.each };
+    }
+
 -- ---- all of them
 
 -- Functions that need no parameter have none, sets that nothing reads go, and then what nobody needs: those of a file
 -- that passes make
-pub all_passed : (K : Shape) (k : Code) (flags : List Bool) (fs bare trimmed made : List declared.Function)
-    → AreFunctions fs (looped_file K k).functions
-    → ((gs : List Function) → AreFunctions fs gs → AreNeedless flags gs) → is_bare flags (react_function K) ≡ false
-    → ((gs : List Function) → AreFunctions fs gs → AreFunctions bare (bared_from flags 0 gs))
+pub all_passed : (K : Shape) (file : File) (flags : List Bool) (begun bare trimmed made : List declared.Function)
+    → ArePassed K file begun → ((gs : List Function) → AreFunctions begun gs → AreNeedless flags gs)
+    → is_bare flags (react_function K) ≡ false
+    → ((gs : List Function) → AreFunctions begun gs → AreFunctions bare (bared_from flags 0 gs))
     → ((gs : List Function) → AreFunctions bare gs → AreFunctions trimmed (map trimmed_of gs))
     → ((gs : List Function) → AreFunctions trimmed gs → AreFunctions made (map pruned_of gs))
-    → ArePassed K (written_file K k) made
-all_passed K k flags fs bare trimmed made looped needless reaction bares trims prunes =
-    let loops = looped_file K k in
-    let bare_file = with_bare flags loops in record {
+    → ArePassed K file made
+all_passed K file flags begun bare trimmed made begin needless reaction bares trims prunes =
+    let first = begin.made in
+    let bare_file = with_bare flags first in record {
       made = with_pruned (with_trimmed bare_file);
       passed =
           Pruned (with_trimmed bare_file) (Trimmed bare_file
-          (Bared flags loops (Looped (length k.procedures.procs) (written_file K k) AsItIs)
-          (needless loops.functions looped) reaction));
+          (Bared flags first begin.passed (needless first.functions begin.are) reaction));
       are =
           prunes (with_trimmed bare_file).functions
-          (trims bare_file.functions (bares loops.functions looped));
+          (trims bare_file.functions (bares first.functions begin.are));
     }

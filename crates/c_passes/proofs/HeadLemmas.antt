@@ -1,10 +1,13 @@
 -- Functions that passes make have the results that they had.
-use Rattle.std.proofs.Common.{◌≡◌, ◌⊎◌, ◌+◌, inl, inr, ℕ, zero, suc, Bool, true, false, cond, List, [], ◌∷◌, length, map, Some, slice_get}
+use Rattle.std.proofs.Common.{◌≡◌, ◌⊎◌, ◌+◌, ◌<◌, ◌≤◌, get_or, inl, inr, ℕ, zero, suc, Bool, true, false, cond, List, [], ◌∷◌, length, map, Some, slice_get}
 use Rattle.std.proofs.Common.{refl, sym, ap, ◌∙◌, subst, arith}
 use Rattle.c_subset.specs.Lines.{lines_of}
 use Rattle.c_subset.specs.Trees.{Function, File}
 use Rattle.c_subset.specs.declared.trees.CType.{CType}
 use Rattle.c_functions.specs.Plans.{Shape, react_function}
+use Rattle.std.proofs.lemmas.Option.{slice_get_within, slice_get-get_or}
+use Rattle.c_decided.specs.Decided.{Plan}
+use Rattle.c_decided.specs.Made.{FileIsMade}
 use Rattle.c_loops.specs.Loops.{looped, loops_from, may_loop, turned}
 use Rattle.c_bare.specs.Needs.{is_bare}
 use Rattle.c_bare.specs.Bare.{handed, bared, bared_from}
@@ -14,14 +17,33 @@ use Rattle.c_passes.specs.Standing.{HasHead}
 same_function : (f g : Function) → Some f ≡ Some g → f ≡ g
 same_function f g e = cc
 
--- ---- loops
-
 -- one of these functions has the result and the parameters of another one
 pub record HasHeadOf (fs : List Function) (f : ℕ) (g : Function) : Type 0 where
   pub function : Function
   pub there : slice_get fs f ≡ Some function
   pub result : function.result ≡ g.result
   pub parameters : function.parameters ≡ g.parameters
+
+-- ---- decided tests
+
+-- a function of a file with decided tests has the result and the parameters of that of the file
+pub decided_head : (P : Plan) (file made : File) → FileIsMade P file made → (f : ℕ) (g : Function)
+    → slice_get made.functions f ≡ Some g → HasHeadOf file.functions f g
+decided_head P file made is f g there =
+    let within : f < length made.functions = slice_get_within made.functions f g there in
+    let own : Function = get_or file.functions f g in
+    let own_there : slice_get file.functions f ≡ Some own =
+    slice_get-get_or file.functions f g (omega (arith, within, is.count)) in
+    let (g', at, one) = is.each f own own_there in
+    let same : g' ≡ g = same_function g' g (sym at ∙ there) in
+    record {
+      function = own;
+      there = own_there;
+      result = sym one.result ∙ ap (λ (h : Function). h.result) same;
+      parameters = sym one.parameters ∙ ap (λ (h : Function). h.parameters) same;
+    }
+
+-- ---- loops
 
 -- a function as a loop has the result and the parameters that it had
 same_result : (p : ℕ) (f : Function) → f.result ≡ (looped p f).result
@@ -58,6 +80,13 @@ loop_head (x ∷ fs) p (suc n) (suc f) g there =
       result = more.result;
       parameters = more.parameters;
     }
+
+-- a function after these is as it was
+pub past_loops : (fs : List Function) (p n i : ℕ) → n ≤ i → slice_get (loops_from p n fs) i ≡ slice_get fs i
+past_loops fs p zero i past = refl
+past_loops [] p (suc n) i past = refl
+past_loops (f ∷ fs) p (suc n) zero past = absurd (omega (arith, past))
+past_loops (f ∷ fs) p (suc n) (suc i) past = past_loops fs (suc p) n i (omega (arith, past))
 
 -- with loops there are as many
 pub loops_count : (fs : List Function) (p n : ℕ) → length (loops_from p n fs) ≡ length fs

@@ -1,2 +1,4 @@
+pub mod Fields
+pub mod Deciding
 pub mod Passed
 pub mod Standing

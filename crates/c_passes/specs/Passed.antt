@@ -1,5 +1,5 @@
 -- A file of C that is made of another one by passes.
-use Rattle.std.specs.Prelude.{◌≡◌, ℕ, Bool, false, List, length, map}
+use Rattle.std.specs.Prelude.{◌≡◌, ◌≤◌, ℕ, nat_lt, Bool, false, List, map, if◌then◌else◌}
 use Rattle.flow_base.specs.Lists.{items_of}
 use Rattle.code_language.specs.Code.{Code}
 use Rattle.c_subset.specs.declared.trees.Function as declared_function
@@ -9,7 +9,10 @@ use Rattle.c_trees.specs.Reading.{statements_of}
 use Rattle.c_functions.specs.Writer.{plans_of}
 use Rattle.c_functions.specs.Plans.{Shape, react_function}
 use Rattle.c_functions.specs.Starts.{file_of}
-use Rattle.c_loops.specs.Loops.{with_loops}
+use Rattle.c_decided.specs.Decided.{Plan}
+use Rattle.c_decided.specs.Made.{FileIsMade}
+use Rattle.c_decided_runs.specs.Runs.{IsBetween}
+use Rattle.c_loops.specs.Loops.{looped, with_loops}
 use Rattle.c_bare.specs.Needs.{is_bare}
 use Rattle.c_bare.specs.Bare.{AreFunctions, AreNeedless, with_bare}
 use Rattle.c_unread.specs.Unread.{with_trimmed}
@@ -35,19 +38,22 @@ functions_in fs = map function_of fs
 abbrev pub written_file : Shape → Code → File
 written_file K k = file_of k K.tests K.bounds K.outputs (plans_of k)
 
--- with the functions of procedures as loops where they may be
-abbrev pub looped_file : Shape → Code → File
-looped_file K k = with_loops (length k.procedures.procs) (written_file K k)
-
 -- ---- passes
+
+-- one of the first so many functions is a loop where it may be
+abbrev pub looped_below : ℕ → ℕ → Function → Function
+looped_below n p f = if nat_lt p n then looped p f else f
 
 module _ (K : Shape) (file : File) where
   -- A file that is made of that one by passes, one after the other. Each function keeps its number
   pub data IsPassed : File → Type 0 where
     -- none
     AsItIs : IsPassed file
-    -- the first so many functions are loops where they may be
-    Looped : (n : ℕ) (made : File) → IsPassed made → IsPassed (with_loops n made)
+    -- tests go that are decided by what is known where they stand, by a plan that fits together between events
+    Decided : (P : Plan) (before made : File) → IsPassed before → FileIsMade P before made → IsBetween K P
+        → IsPassed made
+    -- the first so many functions, none that is called from outside, are loops where they may be
+    Looped : (n : ℕ) (made : File) → IsPassed made → n ≤ K.procs → IsPassed (with_loops n made)
     -- functions with a flag, which need no parameter, have none; the reaction keeps its event
     Bared : (flags : List Bool) (made : File) → IsPassed made → AreNeedless flags made.functions
         → is_bare flags (react_function K) ≡ false → IsPassed (with_bare flags made)

@@ -5,7 +5,12 @@
 #![tactic(auto)]
 
 mod chain;
+mod deciding;
 mod laws;
+mod looping;
+mod spots;
+mod types;
+mod written;
 
 pub use chain::functions;
 pub use laws::passed_files_stand_for_it;

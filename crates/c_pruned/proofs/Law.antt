@@ -12,7 +12,7 @@ use Rattle.c_pruned.specs.Pruned.{with_pruned}
 use Rattle.c_pruned.proofs.Calling.{calls-alike}
 
 module _ (file : File) (K : Shape) (int : Width) where
-  kept : (f : ℕ) (xs : List CValue) → IsKept int file (with_pruned file) f xs
+  pub kept : (f : ℕ) (xs : List CValue) → IsKept int file (with_pruned file) f xs
   kept f xs k s after x e = calls-alike file int k f xs s after x e
 
   pub runs-as : (s : Store) (given : List (Option Value)) (events : List EventWithInputs) (moments : List Moment)

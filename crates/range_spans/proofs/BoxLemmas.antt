@@ -325,7 +325,7 @@ module _ (n : Names) (always : Box) where
       at v true = h.at_each_moment v
       at v false = h.inside v
 
-  input_freed : (box : Box) (v : ℕ) (decl : Var) → slice_get n.vars v ≡ Some decl → decl.kind ≡ kinds.Input
+  pub input_freed : (box : Box) (v : ℕ) (decl : Var) → slice_get n.vars v ≡ Some decl → decl.kind ≡ kinds.Input
       → freed n always box v ≡ always v
   input_freed box v decl e k =
       ap (λ o. cond (is_input_at o) (always v) (box v)) e

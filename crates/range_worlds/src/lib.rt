@@ -14,6 +14,6 @@ mod worlds;
 
 pub use configs::{Change, Test, children, is_state};
 pub use inside::{has_all, is_within};
-pub use setting::{Lack, Setting};
+pub use setting::{Lack, Setting, use_step};
 pub use steps::{Guarded, again, assign, guard};
 pub use worlds::{Parted, add, changed, is_apart, split, union};

@@ -3,6 +3,7 @@ use checked_chart::Chart;
 use range_rules::{Cell, Certificate};
 use range_spans::{Declared, Gap, Span};
 use std::alloc::Global;
+use std::cell::Cell as Counter;
 
 /// What a certificate lacks, or why nothing is said of a chart. The search for a certificate mends
 /// what is lacking, where it can, and asks again.
@@ -21,6 +22,8 @@ pub enum Lack {
     /// The datum of that number may be anywhere in that span, which isn't inside the one in which
     /// the certificate says that it always is.
     Beyond(u32, Span),
+    /// All steps of the check were used. Of the certificate nothing is said.
+    GivenUp,
     /// No cell of the certificate is for the processing of that state for that event from those
     /// worlds. This one is, and has no ends yet.
     Sent(Box<Cell>),
@@ -46,4 +49,16 @@ pub struct Setting<'a> {
     pub cert: &'a Certificate,
     /// Whether sets of worlds are kept apart where flags of the chart differ.
     pub apart: bool,
+    /// How many transitions may still be looked at.
+    pub steps: &'a Counter<u64>,
+}
+
+/// Uses one of the steps of a check. The answer is `GivenUp` where none is left.
+pub fn use_step(setting: &Setting<'_>) -> Result<(), Lack> {
+    let left = setting.steps.get();
+    if left == 0 {
+        return Err(Lack::GivenUp);
+    }
+    setting.steps.set(left - 1);
+    Ok(())
 }

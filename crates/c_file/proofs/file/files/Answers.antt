@@ -53,10 +53,12 @@ returns c =
           printed.source_is;
       runs = record {
         runs = λ int s given events moments small has values all rules.
-            standing.runs int s given events moments
+            standing.runs int s given events moments has
             (subst (λ (n : Names). AreInputValues n 0 given) (sym is.fits.names) values)
             (subst (λ (n : Names). AllGiven n events) (sym is.fits.names) all)
             (rules_run.runs int s given events moments small has values all rules);
-        refuses = λ int small. standing.refuses int (rules_run.refuses int small);
+        refuses = λ int small.
+            c.passed_files_stand_for_it.ensures.refuse (code_of w.code) (tests_seen w.tests) w.limits w.outputs
+            (file_made made) int is.fits.well_formed small (passed made);
       };
     }) c.printed_files.ensures

@@ -1,5 +1,3 @@
-use Rattle.std.proofs.Common.{List}
-use Rattle.c_subset.specs.Trees.{Function}
 use Rattle.c_bare.specs.Bare.{bared}
 use Rattle.c_passes.proofs.FunctionLemmas.{AreTurnedSoFar}
 use Rattle.c_passes.proofs.chain.bared.Given as goal

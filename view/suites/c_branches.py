@@ -14,6 +14,7 @@ from collections import namedtuple
 from chart_c import FOLDER as DRIVER, Failed, compile_driver, make_c, output_of, write
 
 FLAGS = '-std=c99', '-O0', '--coverage'
+NO_PART = 'no part of the chart alone'
 
 # A function under its comment.
 COMMENTED = re.compile(r'^/\*\s+((?:(?!\*/).)*?)\s+\*/\n(?:static\s+)?\w+\s+(\w+)\([^;{]*\)\n\{$', re.DOTALL | re.MULTILINE)
@@ -29,36 +30,51 @@ Branches = namedtuple('Branches', 'all taken missed')
 def branches_of(program, text, files):
     """The branches of the C of a chart text that event files take. Each file has its bytes and the trace that is wanted."""
     with tempfile.TemporaryDirectory() as folder:
-        source, table = make_c(program, text, folder)
-        output_of(['gcc', *FLAGS, '-c', source, '-o', 'chart.o'], folder)
-        output_of(['gcc', '-std=c99', '-I', DRIVER, '-c', table, '-o', 'table.o'], folder)
-        driver = compile_driver(folder, 'gcc')
-        output_of(['gcc', '--coverage', 'chart.o', 'table.o', driver, '-o', 'tested'], folder)
+        source = compiled(program, text, folder)
         for number, (events, trace) in enumerate(files):
-            name = write(folder, '%d.events' % number, events)
-            done = subprocess.run([os.path.join(folder, 'tested'), name], cwd=folder, capture_output=True, check=False)
-            if done.stdout.decode('latin-1') != trace:
+            if run(events, folder) != trace:
                 raise Failed('the C has another trace than the chart over file %d' % (number + 1))
         return told(folder, source)
 
 
-def told(folder, source):
-    """What gcov tells of the source."""
+def compiled(program, text, folder):
+    """Compiles the C of a chart text as the program `tested`, which counts what its runs take, and gives the name of the source."""
+    source, table = make_c(program, text, folder)
+    output_of(['gcc', *FLAGS, '-c', source, '-o', 'chart.o'], folder)
+    output_of(['gcc', '-std=c99', '-I', DRIVER, '-c', table, '-o', 'table.o'], folder)
+    output_of(['gcc', '--coverage', 'chart.o', 'table.o', compile_driver(folder, 'gcc'), '-o', 'tested'], folder)
+    return source
+
+
+def run(events, folder):
+    """The trace of that program over an event file."""
+    name = write(folder, 'events', events)
+    done = subprocess.run([os.path.join(folder, 'tested'), name], cwd=folder, capture_output=True, check=False)
+    return done.stdout.decode('latin-1')
+
+
+def counted(folder, source):
+    """What gcov has counted of the source: its functions, and its lines with their branches."""
     output_of(['gcov', '--json-format', '--branch-probabilities', '--branch-counts', 'chart.o'], folder)
     name = next(each for each in os.listdir(folder) if each.endswith('.gcov.json.gz'))
     with gzip.open(os.path.join(folder, name)) as file:
         found = json.load(file)
+    return next(each for each in found['files'] if os.path.basename(each['file']) == source)
+
+
+def told(folder, source):
+    """What gcov tells of the source."""
+    of_source = counted(folder, source)
     with open(os.path.join(folder, source), encoding='latin-1') as file:
         content = file.read()
     lines, parts = content.split('\n'), parts_of(content)
-    of_source = next(each for each in found['files'] if os.path.basename(each['file']) == source)
     missed = []
     for line in of_source['lines']:
         left = sum(1 for branch in line['branches'] if not branch['count'])
         if left:
             number, function = line['line_number'], line.get('function_name', '')
             missed.append(Missed(number, left, len(line['branches']), statement_at(lines, number), function,
-                                 parts.get(function, 'no part of the chart alone')))
+                                 parts.get(function, NO_PART)))
     count = sum(len(line['branches']) for line in of_source['lines'])
     return Branches(count, count - sum(each.missed for each in missed), missed)
 

@@ -6,7 +6,7 @@ use Rattle.statechart_tree.specs.Views.{state_of, parts_of}
 use Rattle.statechart_scope.specs.Frames.{parts_in}
 
 -- what it has beside its child states
-parts-seen : (s : SourceState) → parts_in (state_of s) ≡ parts_of (out-SourceState s).parts
+pub parts-seen : (s : SourceState) → parts_in (state_of s) ≡ parts_of (out-SourceState s).parts
 parts-seen (SourceState' parts shape states) = rw (outs-SourceState' parts shape states) refl
 
 -- its name

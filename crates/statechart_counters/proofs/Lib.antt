@@ -1,0 +1,3 @@
+pub mod GatherLemmas
+pub mod HasLemmas
+pub mod CollectLemmas

@@ -1,0 +1,14 @@
+use Rattle.std.proofs.Common.{◌≡◌, map, drop}
+use Rattle.std.specs.List.{flat_map}
+use Rattle.statechart_tree.specs.Views.{action_of}
+use Rattle.statechart_meaning.specs.Counting as spec
+use Rattle.statechart_counters.specs.Seen.{counted_seen, gathered}
+use Rattle.statechart_counters.proofs.states.add_ons.Given as goal
+
+-- what is gathered so far, with what is left, is all
+abbrev pub invariant-loop-action : goal.invariant-loop-action
+invariant-loop-action l =
+    gathered (map counted_seen l.counted.items)
+    (flat_map (spec.counted_on l.events) (spec.ons_in (map action_of (drop l.action-index l.actions))))
+    ≡ gathered (map counted_seen l.fn.counted.items)
+    (flat_map (spec.counted_on l.events) (spec.ons_in (map action_of l.actions)))

@@ -1,0 +1,2 @@
+pub mod TransLemmas
+pub mod ToldLoop

@@ -1,0 +1,9 @@
+pub mod AllowedLemmas
+pub mod TokenLemmas
+pub mod WordLemmas
+pub mod NumberLemmas
+pub mod DigitLemmas
+pub mod RefusalLemmas
+pub mod OperatorLemmas
+pub mod FirstLoop
+pub mod FirstLemmas

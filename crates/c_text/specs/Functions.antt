@@ -1,12 +1,11 @@
 -- How functions are written.
-use Rattle.std.specs.Prelude.{ℕ, ◌+◌, ◌==◌, ◌&&◌, ◌||◌, Bool, true, false, not, List, [], ◌∷◌, ◌++◌, length, drop}
+use Rattle.std.specs.Prelude.{ℕ, ◌+◌, ◌&&◌, ◌||◌, Bool, true, false, not, List, [], ◌∷◌, ◌++◌, length, drop}
 use Rattle.std.specs.Prelude.{codes, if◌then◌else◌, Option, Some, None}
 use Rattle.std.specs.List.{list_any}
 use Rattle.c_subset.specs.Trees.{CExpr, Const, Field, Element, Local, Cast, Minus, Bang, Calc, Divide, Bits, Compare}
 use Rattle.c_subset.specs.Trees.{Both, Either, Choose}
 use Rattle.c_subset.specs.declared.trees.Case.{Case}
 use Rattle.c_subset.specs.declared.trees.CType.{CType}
-use Rattle.c_subset.specs.Running.{same_type}
 use Rattle.c_subset.specs.Lines.{Line, Set, Store, StoreAt, Call, Select, If, Else, While, Close, Return}
 use Rattle.c_names.specs.Stems.{name_of_chart}
 use Rattle.c_text.specs.declared.kinds.Kind.{Kind}
@@ -67,9 +66,9 @@ prototype_text L f only_reads result ts = head_text L f only_reads result ts ++ 
 
 -- ---- the locals that are declared
 
--- the local that a line sets, where one of the lines reads it
+-- the local that a line gives a value, of a call where one of the lines reads it
 abbrev pub local_set : List Line → Line → Option LocalName
-local_set lines (Set t k e) = read_local lines t k
+local_set lines (Set t k e) = Some (record { of = t; number = k })
 local_set lines (Store f e) = None
 local_set lines (StoreAt a i e) = None
 local_set lines (Call t k f args) = read_local lines t k
@@ -85,7 +84,7 @@ abbrev pub with_local : List LocalName → Option LocalName → List LocalName
 with_local seen None = seen
 with_local seen (Some x) = if list_any (same_local x) seen then seen else seen ++ x ∷ []
 
--- the locals, then those that lines set and that one of all lines reads, in the order in which they are set first
+-- the locals, then those that lines give a value, in the order in which they are given one first
 abbrev pub with_locals : List Line → List LocalName → List Line → List LocalName
 with_locals lines seen [] = seen
 with_locals lines seen (x ∷ xs) = with_locals lines (with_local seen (local_set lines x)) xs
@@ -95,7 +94,7 @@ abbrev pub parameters_from : ℕ → List CType → List LocalName
 parameters_from k [] = []
 parameters_from k (t ∷ ts) = record { of = t; number = k } ∷ parameters_from (k + 1) ts
 
--- the locals that the lines of a function set and read, without its parameters
+-- the locals that the lines of a function give a value, without its parameters
 unfoldable pub locals_set : List CType → List Line → List LocalName
 locals_set ts lines = drop (length ts) (with_locals lines (parameters_from 0 ts) lines)
 

@@ -1,5 +1,5 @@
 -- How statements are written, a line for each.
-use Rattle.std.specs.Prelude.{ℕ, zero, suc, ◌+◌, ◌-◌, nat_lt, ◌||◌, Bool, true, false, List, [], ◌∷◌, ◌++◌, codes}
+use Rattle.std.specs.Prelude.{ℕ, zero, suc, ◌+◌, ◌-◌, nat_lt, ◌||◌, List, [], ◌∷◌, ◌++◌, codes}
 use Rattle.std.specs.Prelude.{decimal, if◌then◌else◌, Option, Some, None}
 use Rattle.c_subset.specs.Trees.{CExpr}
 use Rattle.c_subset.specs.declared.trees.Case.{Case}
@@ -74,11 +74,10 @@ module _ (L : Labels) (kind : Kind) where
   arguments_text callee k [] = []
   arguments_text callee k (e ∷ es) = argument_text callee k e ++ arguments_text callee (k + 1) es
 
-  -- x = e; where x is read; a value that no line reads isn't written, and has no effect
-  unfoldable pub set_text : ℕ → Option LocalName → CExpr → List ℕ
-  set_text d None e = []
-  set_text d (Some x) e =
-      indent d ++ (local_label kind x.of x.number ++ (codes " = " ++ (stored x.of e ++ (codes ";" ++ 10 ∷ []))))
+  -- x = e;
+  unfoldable pub set_text : ℕ → CType → ℕ → CExpr → List ℕ
+  set_text d t k e =
+      indent d ++ (local_label kind t k ++ (codes " = " ++ (stored t e ++ (codes ";" ++ 10 ∷ []))))
 
   -- x = f(m, e, ..);
   unfoldable pub call_text : ℕ → Option LocalName → ℕ → List CExpr → List ℕ
@@ -112,7 +111,7 @@ module _ (L : Labels) (kind : Kind) where
 module _ (L : Labels) (kind : Kind) (lines : List Line) where
   -- A line of these lines at a depth, in a function with that result
   unfoldable pub line_text : CType → ℕ → Line → List ℕ
-  line_text result d (Set t k e) = set_text L kind d (read_local lines t k) e
+  line_text result d (Set t k e) = set_text L kind d t k e
   line_text result d (Store f e) =
       indent d ++ (codes "m->" ++ (field_label L f ++ (codes " = " ++ (stored L kind (type_of_field L f) e
       ++ (codes ";" ++ 10 ∷ [])))))

@@ -12,7 +12,7 @@ use crate::kinds::{Kind, function_kind, print_function_label, takes_struct};
 use crate::labels::Labels;
 use crate::locals::{LocalName, print_local_label};
 use crate::reading::{any_line_reads, any_line_uses_struct, has_cases, is_same_local, read_local};
-use crate::statements::{comma, print_lines};
+use crate::statements::{comma, local_of, print_lines};
 use crate::types::print_type;
 use c_names::print_chart_name;
 use c_subset::{CType, Function, Line};
@@ -157,12 +157,12 @@ fn print_typed(
     print_local_label(out, kind, local)
 }
 
-/// The local that a line sets, if it sets one, and if one of the lines reads it.
+/// The local that a line gives a value, if there is one: of a call where one of the lines reads it.
 fn local_set(lines: &[Line], line: &Line) -> Option<LocalName>
     ensures { result ≡ spec.local_set (lines_in lines.now) (line_of line.now) }
 {
     match line {
-        Line::Set(of, number, _) => read_local(lines, *of, *number),
+        Line::Set(of, number, _) => Some(local_of(*of, *number)),
         Line::Call(of, number, _, _) => read_local(lines, *of, *number),
         Line::Select(of, number, _, cases, _) => {
             if has_cases(cases.items()) {
@@ -193,7 +193,7 @@ fn is_among(seen: &[LocalName], local: LocalName) -> bool
     false
 }
 
-/// Adds the locals that lines set and read to those that are there.
+/// Adds the locals that lines give a value to those that are there.
 fn add_locals(seen: &mut Vec<LocalName>, lines: &[Line]) -> Result<(), AllocError>
     ensures { OnOk result (seen.new.items
         ≡ spec.with_locals (lines_in lines.now) seen.old.items (lines_in lines.now)) }
@@ -337,7 +337,7 @@ fn print_opening_lines(
     print_unused(out, labels, kind, lines)
 }
 
-/// Appends the declarations of the locals that lines set and read, without parameters of these types.
+/// Appends the declarations of the locals that lines give a value, without parameters of these types.
 #[tactic(auto, unfolding(crate::specs::Functions::locals_set))]
 fn print_locals_set(
     alloc: Global,

@@ -166,28 +166,24 @@ fn print_call(
     out.push_str(");\n")
 }
 
-/// Appends that the local is given the value of an expression, if there is one.
+/// Appends that a local is given the value of an expression.
 #[tactic(auto, unfolding(crate::specs::Statements::set_text))]
 fn print_set(
     out: &mut String,
     labels: &Labels<'_>,
     kind: Kind,
     depth: usize,
-    local: Option<LocalName>,
+    local: LocalName,
     expr: &CExpr,
 ) -> Result<(), AllocError>
     ensures { OnOk result (string_bytes out.new ≡ string_bytes out.old
-        ++ spec.set_text (labels_of labels.now) kind depth local (expr_of expr.now)) }
+        ++ spec.set_text (labels_of labels.now) kind depth local.of local.number
+        (expr_of expr.now)) }
 {
-    match local {
-        Some(local) => {
-            print_indent(out, depth)?;
-            print_local_label(out, kind, local)?;
-            out.push_str(" = ")?;
-            print_value(out, labels, kind, local.of, expr)
-        }
-        None => Ok(()),
-    }
+    print_indent(out, depth)?;
+    print_local_label(out, kind, local)?;
+    out.push_str(" = ")?;
+    print_value(out, labels, kind, local.of, expr)
 }
 
 /// Appends a case of a `switch`.
@@ -302,8 +298,7 @@ fn print_words(out: &mut String, depth: usize, words: &str) -> Result<(), AllocE
     out.push_str(words)
 }
 
-/// Appends one of the lines of a function that gives a `result_type`. A value that no line reads
-/// isn't written.
+/// Appends one of the lines of a function that gives a `result_type`.
 #[tactic(auto, unfolding(crate::specs::Statements::line_text))]
 fn print_line(
     out: &mut String,
@@ -321,14 +316,7 @@ fn print_line(
 {
     match line {
         Line::Set(of, number, expr) => {
-            print_set(
-                out,
-                labels,
-                kind,
-                depth,
-                read_local(lines, *of, *number),
-                expr,
-            )
+            print_set(out, labels, kind, depth, local_of(*of, *number), expr)
         }
         Line::Store(field, expr) => print_store(out, labels, kind, depth, *field, expr),
         Line::StoreAt(row, index, expr) => {

@@ -20,9 +20,9 @@ pub returns-in-Set : goal.returns-in-Set
 unfolding line_text
 returns-in-Set c =
     printed_as _ _ _ _ _ c.print_set.ensures
-    (ap (λ (x : Option LocalName). set_text (labels_of c.args.labels.now) c.args.kind c.args.depth x
+    (ap (λ (x : LocalName). set_text (labels_of c.args.labels.now) c.args.kind c.args.depth x.of x.number
     (expr_of c.in-Set.expr))
-    c.read_local.ensures
+    c.local_of.ensures
     ∙ ap (λ (x : Line). line_text (labels_of c.args.labels.now) c.args.kind (lines_in c.args.lines.now)
     c.args.result_type c.args.depth (line_of x)) (sym c.in-Set.is))
 

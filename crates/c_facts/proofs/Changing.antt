@@ -6,11 +6,11 @@ use Rattle.c_facts.specs.Known.{Place, Home, Sets, Anything, OneOf, Row, Known, 
 use Rattle.c_facts.specs.Known.{is_number, is_at, IsThere, HasOne, HasSets, HoldRows, Hold, type_at, Stays}
 use Rattle.c_facts.specs.Facts.{Written, Change, united, common, same_home, same_row, blurred, moved_sets, put_number}
 use Rattle.c_facts.specs.Facts.{put_sets, change_at, stored_rows, met, framed_sets, with_unchanged}
-use Rattle.c_facts.specs.Facts.{framed_rows, framed, forgotten}
+use Rattle.c_facts.specs.Facts.{framed_rows, steady_homes, steadied, framed, forgotten}
 use Rattle.c_facts.specs.declared.known.Change.TheVariants as changes
 use Rattle.c_facts.proofs.NumberSets.{in-first, in-first-set, in-second-set, in-common}
 use Rattle.c_facts.proofs.PlaceLemmas.{same-at, is-row, still-there}
-use Rattle.c_facts.proofs.Holding.{wider, no-one, closed-hold}
+use Rattle.c_facts.proofs.Holding.{wider, no-one, closed-hold, settled-hold}
 
 -- what became of the number at a place
 abbrev pub IsChange : Store → Store → Place → Change → Type 0
@@ -197,7 +197,9 @@ module _ (s v : Store) (touched : Place → Bool) (stays : (p : Place) → touch
   pub framed-holds : (a b : Known) → Hold s a → Hold v b → Hold v (framed touched a b)
   framed-holds Never b i j = absurd i
   framed-holds (Rows xs) Never i j = j
-  framed-holds (Rows xs) (Rows ys) i j = closed-hold v (framed_rows touched xs ys) (rows-framed xs ys i j)
+  framed-holds (Rows xs) (Rows ys) i j =
+      closed-hold v (steadied touched (framed_rows touched xs ys))
+      (settled-hold v (steady_homes touched (framed_rows touched xs ys)) (framed_rows touched xs ys) (rows-framed xs ys i j))
 
   pub forgotten-holds : (a : Known) → Hold s a → Hold v (forgotten touched a)
   forgotten-holds Never i = absurd i

@@ -1,5 +1,5 @@
 -- Where what is known holds.
-use Rattle.std.proofs.Common.{◌≡◌, nat_eq, not, ℕ, ℤ, Bool, true, false, cond, List, [], ◌∷◌, Option, Some, None}
+use Rattle.std.proofs.Common.{◌≡◌, nat_eq, not, ℕ, zero, suc, ℤ, Bool, true, false, cond, List, [], ◌∷◌, Option, Some, None}
 use Rattle.std.proofs.Common.{refl, sym, ap, ◌∙◌, subst}
 use Rattle.c_subset.specs.declared.trees.Width.{Width}
 use Rattle.c_subset.specs.Meaning.{CValue, Store}
@@ -8,7 +8,8 @@ use Rattle.c_facts.specs.Known.{Place, Home, Sets, Anything, OneOf, Row, Known, 
 use Rattle.c_facts.specs.Known.{is_number, is_at, IsThere, HasOne, HasSets, HoldRows, Hold}
 use Rattle.c_facts.specs.Facts.{News, agrees, kept, some_agrees, united, all_in, same_place, same_home, same_row}
 use Rattle.c_facts.specs.Facts.{width_at, is_width, sets_at, kept_sets, restricted, sets_admit, lowered_sets}
-use Rattle.c_facts.specs.Facts.{lowered_row, lowered, tells, news_of, news, with_news, climbed, is_empty, some_empty}
+use Rattle.c_facts.specs.Facts.{lowered_row, lowered, some_told, told_at, lowered_at, sunk, sunk_from, settled}
+use Rattle.c_facts.specs.Facts.{tells, news_of, news, with_news, climbed, is_empty, some_empty}
 use Rattle.c_facts.specs.Facts.{closed, is_never, narrowed, joined_sets, joined_rows, joined, covers_sets, covers_rows}
 use Rattle.c_facts.specs.Facts.{covers}
 use Rattle.c_facts.proofs.NumberSets.{is-kept, none-agrees, in-first-set, in-second-set, in-all}
@@ -233,12 +234,33 @@ news-are s p (r ∷ rs) n h e =
     at true false e rest = told (tells r.sets) refl e
     at false b e rest = rest e
 
+-- ---- down from place to place
+
+lowered-at-hold : (s : Store) (p : Place) (rs : List Row) → HoldRows s rs → HoldRows s (lowered_at p rs)
+lowered-at-hold s p rs h = at (some_told p (sets_at p rs) rs)
+  where
+    at : (b : Bool) → HoldRows s (cond b (lowered p (sets_at p rs) rs) rs)
+    at true = lowered-hold s p (sets_at p rs) rs (at-place s p rs h) h
+    at false = h
+
+sunk-hold : (s : Store) (n : ℕ) (ps : List Place) (rs : List Row) → HoldRows s rs → HoldRows s (sunk n ps rs)
+sunk-hold s zero ps rs h = h
+sunk-hold s (suc n) [] rs h = h
+sunk-hold s (suc n) (p ∷ ps) rs h = sunk-hold s n (told_at p rs ps) (lowered_at p rs) (lowered-at-hold s p rs h)
+
+pub sunk-from-hold : (s : Store) (p : Place) (rs : List Row) → HoldRows s rs → HoldRows s (sunk_from p rs)
+sunk-from-hold s p rs h = sunk-hold s 200 (p ∷ []) rs h
+
+pub settled-hold : (s : Store) (ps : List Place) (rs : List Row) → HoldRows s rs → HoldRows s (settled ps rs)
+settled-hold s [] rs h = h
+settled-hold s (p ∷ ps) rs h = settled-hold s ps (sunk_from p rs) (sunk-from-hold s p rs h)
+
 pub climbed-hold : (s : Store) (rounds : List Row) (p : Place) (rs : List Row) → HoldRows s rs
     → HoldRows s (climbed rounds p rs)
-climbed-hold s [] p rs h = lowered-hold s p (sets_at p rs) rs (at-place s p rs h) h
+climbed-hold s [] p rs h = sunk-from-hold s p rs h
 climbed-hold s (x ∷ rounds) p rs h =
-    let low = lowered p (sets_at p rs) rs in
-    let holds : HoldRows s low = lowered-hold s p (sets_at p rs) rs (at-place s p rs h) h in
+    let low = sunk_from p rs in
+    let holds : HoldRows s low = sunk-from-hold s p rs h in
     at low holds (news p low) refl (λ q ys h. climbed-hold s rounds q ys h)
   where
     at : (low : List Row) → HoldRows s low → (o : Option News) → news p low ≡ o

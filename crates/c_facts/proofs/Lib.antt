@@ -3,6 +3,7 @@ pub mod BitLemmas
 pub mod PlaceLemmas
 pub mod ValueLemmas
 pub mod Holding
+pub mod Sinking
 pub mod Changing
 pub mod Testing
 pub mod Storing

@@ -22,7 +22,7 @@ use Rattle.c_facts.specs.declared.known.Place.TheVariants as places
 use Rattle.c_facts.specs.declared.known.Constant.{Constant}
 use Rattle.c_facts.specs.declared.known.Written.TheVariants as writes
 use Rattle.c_facts.specs.declared.known.Change.TheVariants as changes
-use Rattle.c_facts.specs.Facts.{Written, change_of, change_at, width_at, is_known, is_numbered}
+use Rattle.c_facts.specs.Facts.{Written, change_of, change_at, width_at, is_known, is_numbered, stored_rows, homes_of_unknown}
 use Rattle.c_facts.specs.Asking.{unsigned_of, constant_of, field_in, number_written, mask_written, bits_written}
 use Rattle.c_facts.specs.Asking.{written_in, written_by, written, stored}
 use Rattle.c_facts.proofs.NumberSets.{same}
@@ -30,6 +30,7 @@ use Rattle.c_facts.proofs.PlaceLemmas.{is-width, width-there, number-there, IsWo
 use Rattle.c_facts.proofs.ValueLemmas.{unsigned, below, is-below, same-gives, own-stays, combined-unsigned, field-is}
 use Rattle.c_facts.proofs.ValueLemmas.{bits-mean, const-means, bits-small, unsigned-is, constant-is}
 use Rattle.c_facts.proofs.Changing.{IsChange, rows-stored}
+use Rattle.c_facts.proofs.Holding.{settled-hold}
 
 -- ---- fields after a store
 
@@ -383,5 +384,6 @@ pub stored-holds : (int : Width) (s : Store) (l : Locals) (f : ℕ) (e : CExpr) 
 stored-holds int s l f e x Never m h = h
 stored-holds int s l f e x (Rows rs) m h =
     let w = was int s l f e x rs h m in
-    rows-stored s (with_field s f x) (types-stay s f x w.o w.there w.typed) f (written f e rs)
-    (changes-at int s l f e x rs h w) rs h
+    settled-hold (with_field s f x) (homes_of_unknown f rs) (stored_rows f (written f e rs) rs)
+    (rows-stored s (with_field s f x) (types-stay s f x w.o w.there w.typed) f (written f e rs)
+    (changes-at int s l f e x rs h w) rs h)

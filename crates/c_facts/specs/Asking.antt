@@ -14,7 +14,7 @@ use Rattle.c_subset.specs.Trees.{CExpr, Const, Field, Element, Local, Cast, Minu
 use Rattle.c_subset.specs.Trees.{Both, Either, Choose}
 use Rattle.c_subset.specs.Meaning.{bits, is_true}
 use Rattle.c_facts.specs.Known.{Place, Known, Never, Rows, Row}
-use Rattle.c_facts.specs.Facts.{Written, agrees, width_at, is_numbered, narrowed, joined, stored_rows, has_place}
+use Rattle.c_facts.specs.Facts.{Written, agrees, width_at, is_numbered, narrowed, joined, stored_in, has_place}
 use Rattle.c_facts.specs.Facts.{is_covered}
 use Rattle.c_facts.specs.declared.known.Place.TheVariants as places
 use Rattle.c_facts.specs.declared.known.Written.TheVariants as writes
@@ -218,7 +218,7 @@ written f e rs = written_by (is_numbered f rs) (width_at f rs) f e
 -- after `m->f = e;`
 abbrev pub stored : ℕ → CExpr → Known → Known
 stored f e Never = Never
-stored f e (Rows rs) = Rows (stored_rows f (written f e rs) rs)
+stored f e (Rows rs) = Rows (stored_in f (written f e rs) rs)
 
 -- which of so many bits alone isn't set in a mask of 32 bits, if it is one of them
 abbrev pub single_gap : ℕ → ℕ → Option ℕ

@@ -1,5 +1,5 @@
 -- What is done with what is known.
-use Rattle.std.specs.Prelude.{◌==◌, not, ℕ, Bool, true, false, List, [], ◌∷◌, Option, Some, None, if◌then◌else◌}
+use Rattle.std.specs.Prelude.{◌==◌, not, ℕ, zero, suc, Bool, true, false, List, [], ◌∷◌, Option, Some, None, if◌then◌else◌}
 use Rattle.std.specs.Int.{bit_at}
 use Rattle.c_subset.specs.declared.trees.Width.{Width}
 use Rattle.c_subset.specs.Meaning.{bits}
@@ -126,6 +126,57 @@ abbrev pub lowered : Place → Sets → List Row → List Row
 lowered p x [] = []
 lowered p x (r ∷ rs) = (if same_place r.home.place p then lowered_row x r else r) ∷ lowered p x rs
 
+-- there are numbers of a case that can't be
+abbrev pub are_idle : Bool → List ℕ → Bool
+are_idle true xs = false
+are_idle false [] = false
+are_idle false (x ∷ xs) = true
+
+-- the home tells something new: there are numbers of a case that can't be
+abbrev pub are_news : Bool → Bool → Sets → Bool
+are_news may other Anything = false
+are_news may other (OneOf on off) = if are_idle may on then true else are_idle other off
+
+-- the sets of place p tell something new of a place whose home it is
+abbrev pub is_told : Place → Sets → Row → Bool
+is_told p x r =
+    if same_place r.home.place p
+    then are_news (sets_admit true r.home.value x) (sets_admit false r.home.value x) r.sets else false
+
+-- they tell something new of some place
+abbrev pub some_told : Place → Sets → List Row → Bool
+some_told p x [] = false
+some_told p x (r ∷ rs) = if is_told p x r then true else some_told p x rs
+
+-- the places of which they tell something new, and others
+abbrev pub told : Place → Sets → List Row → List Place → List Place
+told p x [] ps = ps
+told p x (r ∷ rs) ps = if is_told p x r then r.place ∷ told p x rs ps else told p x rs ps
+
+-- the places from which it goes on down
+abbrev pub told_at : Place → List Row → List Place → List Place
+told_at p rs ps = if some_told p (sets_at p rs) rs then told p (sets_at p rs) rs ps else ps
+
+-- what place p tells of the places whose home it is
+abbrev pub lowered_at : Place → List Row → List Row
+lowered_at p rs = if some_told p (sets_at p rs) rs then lowered p (sets_at p rs) rs else rs
+
+-- down from these places, at most so many times: what each tells of the places whose home it is, and what those then
+-- tell
+abbrev pub sunk : ℕ → List Place → List Row → List Row
+sunk zero ps rs = rs
+sunk (suc n) [] rs = rs
+sunk (suc n) (p ∷ ps) rs = sunk n (told_at p rs ps) (lowered_at p rs)
+
+-- down from place p
+abbrev pub sunk_from : Place → List Row → List Row
+sunk_from p rs = sunk 200 (p ∷ []) rs
+
+-- down from each of these places
+abbrev pub settled : List Place → List Row → List Row
+settled [] rs = rs
+settled (p ∷ ps) rs = settled ps (sunk_from p rs)
+
 -- ---- up: where a place has no number for one of both cases, it is the other one
 
 -- whether the home has its number
@@ -155,10 +206,10 @@ with_news (Some n) rs go = go n
 -- Up from place p, at most so many times as there are rows of the first kind: what it tells goes down, and then its
 -- home is what it tells of it.
 abbrev pub climbed : List Row → Place → List Row → List Row
-climbed [] p rs = lowered p (sets_at p rs) rs
+climbed [] p rs = sunk_from p rs
 climbed (x ∷ rounds) p rs =
-    with_news (news p (lowered p (sets_at p rs) rs)) (lowered p (sets_at p rs) rs)
-    (λ n. climbed rounds n.home.place (restricted n.way n.home.value n.home.place (lowered p (sets_at p rs) rs)))
+    with_news (news p (sunk_from p rs)) (sunk_from p rs)
+    (λ n. climbed rounds n.home.place (restricted n.way n.home.value n.home.place (sunk_from p rs)))
 
 -- ---- no run comes here
 
@@ -287,6 +338,17 @@ abbrev pub stored_rows : ℕ → Written → List Row → List Row
 stored_rows f e [] = []
 stored_rows f e (r ∷ rs) = stored_row f e r ∷ stored_rows f e rs
 
+-- the homes of the places of field f of which nothing is known
+abbrev pub homes_of_unknown : ℕ → List Row → List Place
+homes_of_unknown f [] = []
+homes_of_unknown f (r ∷ rs) =
+    if (if field_of r.place == f then not (is_known r.sets) else false)
+    then r.home.place ∷ homes_of_unknown f rs else homes_of_unknown f rs
+
+-- after field f was written: where nothing was known of a place, its home tells which case can't be
+abbrev pub stored_in : ℕ → Written → List Row → List Row
+stored_in f e rs = settled (homes_of_unknown f rs) (stored_rows f e rs)
+
 -- ---- a call
 
 -- what both tell of one place
@@ -318,11 +380,22 @@ module _ (touched : Place → Bool) where
         sets = framed_sets (touched b.place) (touched b.home.place) (same_home a.home b.home) a.sets b.sets;
       } ∷ framed_rows rs bs else with_unchanged a (framed_rows rs (b ∷ bs))
 
+  -- the homes that don't change, of places that may
+  abbrev pub steady_homes : List Row → List Place
+  steady_homes [] = []
+  steady_homes (r ∷ rs) =
+      if (if touched r.place then not (touched r.home.place) else false)
+      then r.home.place ∷ steady_homes rs else steady_homes rs
+
+  -- the places that may change are as their homes tell
+  abbrev pub steadied : List Row → List Row
+  steadied rs = settled (steady_homes rs) rs
+
   -- after a call that changes no other places, by what the callee leaves
   abbrev pub framed : Known → Known → Known
   framed Never b = Never
   framed (Rows rs) Never = Never
-  framed (Rows rs) (Rows bs) = closed (framed_rows rs bs)
+  framed (Rows rs) (Rows bs) = closed (steadied (framed_rows rs bs))
 
   -- what stays where no other places change
   abbrev pub forgotten : Known → Known

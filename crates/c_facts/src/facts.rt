@@ -5,7 +5,7 @@ ghost use Rattle.c_facts.specs.Known as known;
 ghost use Rattle.c_facts.specs.Facts as spec;
 ghost use Rattle.c_facts.specs.Views.{known_of, places_of, rows_of};
 
-use crate::framing::framed_rows;
+use crate::framing::{framed_rows, steadied};
 use crate::known::{Known, Place, Places, Rows};
 use crate::places::{field_of, same_width};
 use crate::rows::{
@@ -69,7 +69,7 @@ fn narrowed_rows(
         place (spec.restricted way number place (rows_of rows.now)))) }
 {
     let left = restricted(alloc, rows, way, number, place)?;
-    Ok(closed(climbed(alloc, rows, place, &left)?))
+    Ok(closed(climbed(alloc, rows, place, left)?))
 }
 
 /// Where a place, whose field has that width, has that number, or hasn't.
@@ -138,7 +138,10 @@ pub fn framed(
         Known::Never => Ok(Known::Never),
         Known::Of(rows) => match left {
             Known::Never => Ok(Known::Never),
-            Known::Of(others) => Ok(closed(framed_rows(alloc, rows, others, touched)?)),
+            Known::Of(others) => {
+                let left = framed_rows(alloc, rows, others, touched)?;
+                Ok(closed(steadied(alloc, left, touched)?))
+            }
         },
     }
 }

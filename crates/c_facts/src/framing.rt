@@ -7,6 +7,7 @@ use crate::known::{Places, Row, Rows};
 use crate::places::{is_touched, same_home};
 use crate::rows::{copied_row, copied_rows, more, same_row, with_sets};
 use crate::sets::{blurred, framed_sets};
+use crate::settling::{settled, with_place};
 use flow_base::Memory;
 use std::alloc::Global;
 
@@ -91,5 +92,37 @@ pub fn framed_rows(
                 }
             }
         },
+    }
+}
+
+/// The homes that don't change, of places that may.
+fn steady_homes(alloc: Global, rows: &Rows, touched: &Places) -> Result<Places, Memory>
+    ensures { IfOk result (λ homes. places_of homes
+        ≡ spec.steady_homes (spec.is_touched (places_of touched.now)) (rows_of rows.now)) }
+{
+    match rows {
+        Rows::End => Ok(Places::Empty),
+        Rows::More(row, rest) => {
+            let others = steady_homes(alloc, rest, touched)?;
+            if is_touched(touched, row.place) && !is_touched(touched, row.home.place) {
+                with_place(alloc, row.home.place, others)
+            } else {
+                Ok(others)
+            }
+        }
+    }
+}
+
+/// The places that may change are as their homes tell.
+pub fn steadied(alloc: Global, rows: Rows, touched: &Places) -> Result<Rows, Memory>
+    ensures { IfOk result (λ left. rows_of left
+        ≡ spec.steadied (spec.is_touched (places_of touched.now)) (rows_of rows)) }
+{
+    match steady_homes(alloc, &rows, touched) {
+        Ok(homes) => settled(alloc, &homes, rows),
+        Err(Memory) => {
+            drop(rows);
+            Err(Memory)
+        }
     }
 }

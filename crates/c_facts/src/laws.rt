@@ -57,8 +57,7 @@ pub fn tests_of_a_small_chart_are_decided()
         ≡ chart_known (surely (2 ∷ [])) (surely (0 ∷ [])) (surely (1 ∷ [])) (surely (0 ∷ 1 ∷ [])) }
     ensures call { framed (is_touched (places.Bit 2 1 ∷ [])) (tested true (is_child 1 3) between)
         (chart_known Anything Anything Anything (OneOf (0 ∷ []) (0 ∷ [])))
-        ≡ chart_known (surely (2 ∷ [])) (surely (3 ∷ [])) (surely (1 ∷ []))
-        (OneOf (0 ∷ []) (0 ∷ [])) }
+        ≡ chart_known (surely (2 ∷ [])) (surely (3 ∷ [])) (surely (1 ∷ [])) (surely (0 ∷ [])) }
     ensures only_the_bit { may_store (places.Bit 2 1 ∷ []) 2 (only_bits 2 4294967293) between
         ≡ true }
 {}

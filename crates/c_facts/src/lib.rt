@@ -15,6 +15,7 @@ mod places;
 mod questions;
 mod rows;
 mod sets;
+mod settling;
 mod stores;
 
 pub use constants::constant_of;

@@ -2,14 +2,15 @@
 ghost use Rattle.std.specs.Prelude.{◌≡◌, ◌∷◌, [], true, false, if◌then◌else◌, None, Some, IfOk};
 ghost use Rattle.c_facts.specs.Known as known;
 ghost use Rattle.c_facts.specs.Facts as spec;
-ghost use Rattle.c_facts.specs.Views.{row_of, rows_of, sets_of};
+ghost use Rattle.c_facts.specs.Views.{places_of, row_of, rows_of, sets_of};
 
-use crate::known::{Home, News, Place, Row, Rows, Sets, Written};
+use crate::known::{Home, News, Place, Places, Row, Rows, Sets, Written};
 use crate::places::{change_at, field_of, same_home, same_place, same_width};
 use crate::sets::{
     copied_sets, covers_sets, is_empty, is_known, joined_sets, kept_sets, lowered_sets, moved_sets,
     put_sets, sets_admit, tells,
 };
+use crate::settling::{settled, sunk_from, with_place};
 use c_subset::Width;
 use flow_base::Memory;
 use std::alloc::Global;
@@ -97,7 +98,7 @@ pub fn is_numbered(rows: &Rows, field: u32) -> bool
 }
 
 /// What is known of a place.
-fn sets_at(alloc: Global, rows: &Rows, place: Place) -> Result<Sets, Memory>
+pub fn sets_at(alloc: Global, rows: &Rows, place: Place) -> Result<Sets, Memory>
     ensures { IfOk result (λ sets. sets_of sets ≡ spec.sets_at place (rows_of rows.now)) }
 {
     match rows {
@@ -181,7 +182,7 @@ fn lowered_if(alloc: Global, row: &Row, place: Place, home: &Sets) -> Result<Row
 }
 
 /// What the sets of a place tell of the rows whose home it is.
-fn lowered(alloc: Global, rows: &Rows, place: Place, home: &Sets) -> Result<Rows, Memory>
+pub fn lowered(alloc: Global, rows: &Rows, place: Place, home: &Sets) -> Result<Rows, Memory>
     ensures { IfOk result (λ left. rows_of left
         ≡ spec.lowered place (sets_of home.now) (rows_of rows.now)) }
 {
@@ -192,15 +193,6 @@ fn lowered(alloc: Global, rows: &Rows, place: Place, home: &Sets) -> Result<Rows
             more(alloc, lowered_if(alloc, row, place, home)?, others)
         }
     }
-}
-
-/// What a place tells of the rows whose home it is.
-fn lowered_by(alloc: Global, rows: &Rows, place: Place) -> Result<Rows, Memory>
-    ensures { IfOk result (λ left. rows_of left
-        ≡ spec.lowered place (spec.sets_at place (rows_of rows.now)) (rows_of rows.now)) }
-{
-    let home = sets_at(alloc, rows, place)?;
-    lowered(alloc, rows, place, &home)
 }
 
 /// What a place tells of its home.
@@ -233,18 +225,18 @@ fn news(rows: &Rows, place: Place) -> Option<News>
 
 /// Up from a place, at most so many times as there are rows of the first kind: what it tells goes
 /// down, and then its home is what it tells of it.
-pub fn climbed(alloc: Global, rounds: &Rows, place: Place, rows: &Rows) -> Result<Rows, Memory>
+pub fn climbed(alloc: Global, rounds: &Rows, place: Place, rows: Rows) -> Result<Rows, Memory>
     ensures { IfOk result (λ left. rows_of left
-        ≡ spec.climbed (rows_of rounds.now) place (rows_of rows.now)) }
+        ≡ spec.climbed (rows_of rounds.now) place (rows_of rows)) }
 {
-    let low = lowered_by(alloc, rows, place)?;
+    let low = sunk_from(alloc, place, rows)?;
     match rounds {
         Rows::End => Ok(low),
         Rows::More(_, rest) => match news(&low, place) {
             None => Ok(low),
             Some(News { home, way }) => {
                 let up = restricted(alloc, &low, way, home.value, home.place)?;
-                climbed(alloc, rest, home.place, &up)
+                climbed(alloc, rest, home.place, up)
             }
         },
     }
@@ -335,4 +327,33 @@ pub fn stored_rows(alloc: Global, rows: &Rows, field: u32, written: Written) -> 
             more(alloc, stored_row(alloc, row, field, written)?, others)
         }
     }
+}
+
+/// The homes of the places of a field of which nothing is known.
+pub fn homes_of_unknown(alloc: Global, rows: &Rows, field: u32) -> Result<Places, Memory>
+    ensures { IfOk result (λ homes. places_of homes
+        ≡ spec.homes_of_unknown field (rows_of rows.now)) }
+{
+    match rows {
+        Rows::End => Ok(Places::Empty),
+        Rows::More(row, rest) => {
+            let others = homes_of_unknown(alloc, rest, field)?;
+            if field_of(row.place) == field && !is_known(&row.sets) {
+                with_place(alloc, row.home.place, others)
+            } else {
+                Ok(others)
+            }
+        }
+    }
+}
+
+/// After a field was written: where nothing was known of a place, its home tells which case can't
+/// be.
+pub fn stored_in(alloc: Global, rows: &Rows, field: u32, written: Written) -> Result<Rows, Memory>
+    ensures { IfOk result (λ after. rows_of after
+        ≡ spec.stored_in field written (rows_of rows.now)) }
+{
+    let homes = homes_of_unknown(alloc, rows, field)?;
+    let after = stored_rows(alloc, rows, field, written)?;
+    settled(alloc, &homes, after)
 }

@@ -7,7 +7,7 @@ ghost use Rattle.c_facts.specs.Views.{known_of, places_of, rows_of};
 use crate::constants::{constant_of, field_in, single_bit, single_gap, unsigned_of};
 use crate::known::{Constant, Known, Place, Places, Rows, Written};
 use crate::places::{has_place, is_covered, same_width};
-use crate::rows::{is_numbered, stored_rows, width_at};
+use crate::rows::{is_numbered, stored_in, width_at};
 use c_subset::{Bitwise, CExpr, Width};
 use flow_base::Memory;
 use std::alloc::Global;
@@ -111,7 +111,7 @@ pub fn stored(alloc: Global, field: u32, expr: &CExpr, known: &Known) -> Result<
         Known::Never => Ok(Known::Never),
         Known::Of(rows) => {
             let value = written(field, expr, rows);
-            Ok(Known::Of(stored_rows(alloc, rows, field, value)?))
+            Ok(Known::Of(stored_in(alloc, rows, field, value)?))
         }
     }
 }

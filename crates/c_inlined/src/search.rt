@@ -1,12 +1,12 @@
 //! Which functions are placed where they are called: small ones, and those that are called once. It
 //! is a search: whatever it chooses, the file that is made runs as the other one.
-use crate::sizes::{Size, size_of};
+use crate::sizes::{Size, placed_size_of, size_of};
 use c_subset::{Case, Function, Line};
 use flow_base::Memory;
 use std::alloc::Global;
 
 /// The most lines of a function that is placed at each call of it.
-const FEW_LINES: u32 = 6;
+const FEW_LINES: u32 = 8;
 
 /// A search through the functions of a file.
 #[derive(Drop)]
@@ -235,9 +235,9 @@ fn size_with(
     if flag_of(&search.may, called) != Some(true) {
         return None;
     }
-    let own = size_of(functions.get(called as usize)?);
-    let made = size.with(own, calls_in(lines, called));
-    if made.is_small() || (own.is_plain() && made.is_short()) {
+    let function = functions.get(called as usize)?;
+    let made = size.with(placed_size_of(function), calls_in(lines, called));
+    if made.is_small() || (size_of(function).is_plain() && made.is_short()) {
         Some(made)
     } else {
         None

@@ -10,9 +10,9 @@ const MOST_BRANCHES: u32 = 19;
 /// The most lines of a body that is placed in any function: it takes hardly more than the call.
 const PLAIN_LINES: u32 = 2;
 
-/// The most lines of a function in which such bodies are placed. Passes call themselves along the
-/// statements, so that the stack of the program bounds how many there may be.
-const LONGEST: u32 = 1_000;
+/// The most lines of a function in which such bodies are placed. So it isn't nested or goes on deeper
+/// than 200 statements, which a pass that decides tests asks of each function.
+const LONGEST: u32 = 200;
 
 /// How large a function is.
 #[derive(Clone, Copy)]
@@ -87,6 +87,17 @@ fn branches_in(line: &Line) -> u32 {
             branches_of(expr).saturating_add(ways)
         }
         Line::If(expr) | Line::While(expr) => branches_of(expr).saturating_add(1),
+    }
+}
+
+/// How large the body of a function is with what sets its parameters, where it stands in place of a
+/// call.
+pub fn placed_size_of(function: &Function) -> Size {
+    let own = size_of(function);
+    let sets = u32::try_from(function.parameters.items().len()).unwrap_or(u32::MAX);
+    Size {
+        lines: own.lines.saturating_add(sets),
+        branches: own.branches,
     }
 }
 

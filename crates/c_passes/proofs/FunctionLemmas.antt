@@ -16,21 +16,14 @@ use Rattle.c_trees.proofs.ReadLemmas.{read-whole}
 use Rattle.c_subset.specs.declared.trees.Function as declared
 use Rattle.c_functions.specs.Statements as plan
 use Rattle.c_functions.specs.Writer.{plans_of}
-use Rattle.c_functions.specs.Plans.{Shape, Tests, react_function}
+use Rattle.c_functions.specs.Plans.{Shape, Tests}
 use Rattle.c_functions.specs.Files.{shape_of, functions_c, procedure_c}
 use Rattle.c_functions.specs.Starts.{file_of}
 use Rattle.c_functions.proofs.FilesFunctions.{range-length}
-use Rattle.c_decided.specs.Decided.{Plan}
-use Rattle.c_decided.specs.Made as decided
-use Rattle.c_decided_runs.specs.Runs.{IsBetween}
-use Rattle.c_loops.specs.Loops.{looped, loops_from, with_loops}
-use Rattle.c_bare.specs.Needs.{is_bare}
-use Rattle.c_bare.specs.Bare.{AreFunctions, AreNeedless, bared, bared_from, with_bare}
-use Rattle.c_unread.specs.Unread.{trimmed_of, with_trimmed}
-use Rattle.c_pruned.specs.Pruned.{pruned_of, with_pruned}
+use Rattle.c_loops.specs.Loops.{looped, loops_from}
+use Rattle.c_bare.specs.Bare.{AreFunctions, bared, bared_from}
 use Rattle.c_writer.specs.Functions.{IsAt, IsShapeOf}
-use Rattle.c_passes.specs.Passed.{function_of, functions_in, written_file, looped_below, ArePassed, AsItIs}
-use Rattle.c_passes.specs.Passed.{Decided, Looped, Bared, Trimmed, Pruned}
+use Rattle.c_passes.specs.Passed.{function_of, functions_in, written_file, looped_below}
 use Rattle.c_passes.proofs.HeadLemmas.{loops_count, bare_count, map_count}
 
 -- ---- how many there are
@@ -348,53 +341,3 @@ all_looped n taken fs so_far gs are = record {
       subst (IsFunction f) has.is
       (so_far.each i t.function f t.there there has.function (are.each i t.function has.function t.there has.there));
 }
-
--- ---- what passes make, up to decided tests
-
--- the functions that are written, as loops where they may be
-pub as_looped : (K : Shape) (file : File) (written made : List declared.Function) → AreFunctions written file.functions
-    → ((gs : List Function) → AreFunctions written gs → AreFunctions made (loops_from 0 K.procs gs))
-    → ArePassed K file made
-as_looped K file written made are loop = record {
-  made = with_loops K.procs file;
-  passed = Looped K.procs file AsItIs (omega arith);
-  are = loop file.functions are;
-}
-
--- those in which tests are decided
-pub as_decided : (K : Shape) (file : File) (P : Plan) (begun made : List declared.Function) → ArePassed K file begun
-    → IsBetween K P
-    → ((gs : List Function) → decided.AreFunctions begun gs → decided.AreMadeFunctions P gs made) → ArePassed K file made
-as_decided K file P begun made begin between makes =
-    let are : decided.AreMadeFunctions P begin.made.functions made =
-    makes begin.made.functions (record { count = begin.are.count; each = begin.are.each }) in
-    let after : File = record begin.made { functions = are.functions } in record {
-      made = after;
-      passed =
-          Decided P begin.made after begin.passed
-          (record { fields = refl; rows = refl; count = are.count; each = are.each }) between;
-      are = record { count = are.are.count; each = are.are.each };
-    }
-
--- ---- all of them
-
--- Functions that need no parameter have none, sets that nothing reads go, and then what nobody needs: those of a file
--- that passes make
-pub all_passed : (K : Shape) (file : File) (flags : List Bool) (begun bare trimmed made : List declared.Function)
-    → ArePassed K file begun → ((gs : List Function) → AreFunctions begun gs → AreNeedless flags gs)
-    → is_bare flags (react_function K) ≡ false
-    → ((gs : List Function) → AreFunctions begun gs → AreFunctions bare (bared_from flags 0 gs))
-    → ((gs : List Function) → AreFunctions bare gs → AreFunctions trimmed (map trimmed_of gs))
-    → ((gs : List Function) → AreFunctions trimmed gs → AreFunctions made (map pruned_of gs))
-    → ArePassed K file made
-all_passed K file flags begun bare trimmed made begin needless reaction bares trims prunes =
-    let first = begin.made in
-    let bare_file = with_bare flags first in record {
-      made = with_pruned (with_trimmed bare_file);
-      passed =
-          Pruned (with_trimmed bare_file) (Trimmed bare_file
-          (Bared flags first begin.passed (needless first.functions begin.are) reaction));
-      are =
-          prunes (with_trimmed bare_file).functions
-          (trims bare_file.functions (bares first.functions begin.are));
-    }

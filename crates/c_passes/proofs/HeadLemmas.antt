@@ -1,5 +1,5 @@
 -- Functions that passes make have the results that they had.
-use Rattle.std.proofs.Common.{◌≡◌, ◌⊎◌, ◌+◌, ◌<◌, ◌≤◌, get_or, inl, inr, ℕ, zero, suc, Bool, true, false, cond, List, [], ◌∷◌, length, map, Some, slice_get}
+use Rattle.std.proofs.Common.{◌≡◌, ◌⊎◌, ◌+◌, ◌<◌, ◌≤◌, get_or, inl, inr, ℕ, zero, suc, Bool, true, false, cond, List, [], ◌∷◌, length, map, Some, slice_get, slice_set}
 use Rattle.std.proofs.Common.{refl, sym, ap, ◌∙◌, subst, arith}
 use Rattle.c_subset.specs.Lines.{lines_of}
 use Rattle.c_subset.specs.Trees.{Function, File}
@@ -167,6 +167,41 @@ map_head turn results parameters (x ∷ fs) (suc f) g there =
 pub map_count : (turn : Function → Function) (fs : List Function) → length (map turn fs) ≡ length fs
 map_count turn [] = refl
 map_count turn (f ∷ fs) = ap suc (map_count turn fs)
+
+-- ---- one function is another one
+
+-- there are as many of them
+pub set_count : (fs : List Function) (p : ℕ) (f : Function) → length (slice_set fs p f) ≡ length fs
+set_count [] p f = refl
+set_count (x ∷ fs) zero f = refl
+set_count (x ∷ fs) (suc p) f = ap suc (set_count fs p f)
+
+-- each has the result and the parameters of that with its number, where the other one has those of the one before
+pub set_head : (fs : List Function) (p : ℕ) (made own : Function) → slice_get fs p ≡ Some own
+    → own.result ≡ made.result → own.parameters ≡ made.parameters → (f : ℕ) (g : Function)
+    → slice_get (slice_set fs p made) f ≡ Some g → HasHeadOf fs f g
+set_head [] zero made own here result parameters f g there = absurd cc
+set_head [] (suc p) made own here result parameters f g there = absurd cc
+set_head (x ∷ fs) zero made own here result parameters zero g there =
+    let same = same_function made g there in
+    let before = same_function x own here in record {
+      function = x;
+      there = refl;
+      result = ap (λ (h : Function). h.result) before ∙ result ∙ ap (λ (h : Function). h.result) same;
+      parameters =
+          ap (λ (h : Function). h.parameters) before ∙ parameters ∙ ap (λ (h : Function). h.parameters) same;
+    }
+set_head (x ∷ fs) zero made own here result parameters (suc f) g there =
+    record { function = g; there = there; result = refl; parameters = refl }
+set_head (x ∷ fs) (suc p) made own here result parameters zero g there =
+    record { function = g; there = there; result = refl; parameters = refl }
+set_head (x ∷ fs) (suc p) made own here result parameters (suc f) g there =
+    let more = set_head fs p made own here result parameters f g there in record {
+      function = more.function;
+      there = more.there;
+      result = more.result;
+      parameters = more.parameters;
+    }
 
 -- ---- both
 

@@ -26,10 +26,13 @@ use Rattle.c_unread.specs.Unread.{trimmed_of, with_trimmed}
 use Rattle.c_unread.proofs.Calling as unread
 use Rattle.c_pruned.specs.Pruned.{pruned_of, with_pruned}
 use Rattle.c_pruned.proofs.Law as pruned
-use Rattle.c_passes.specs.Passed.{IsPassed, AsItIs, Decided, Looped, Bared, Trimmed, Pruned}
+use Rattle.c_inlined.specs.Inlined.{with_function}
+use Rattle.c_inlined.proofs.Law as inlined
+use Rattle.c_passes.specs.Passed.{IsPassed, AsItIs, Decided, Looped, Bared, Trimmed, Pruned, Inlined}
 use Rattle.c_passes.specs.Standing.{HasOutside, StandsFor, PassedFilesRefuse}
 use Rattle.c_passes.proofs.FunctionLemmas.{first_count}
 use Rattle.c_passes.proofs.HeadLemmas.{decided_head, loops_count, loop_head, past_loops, bare_count, bare_head, own_head, kept_head, fewer_head, map_count, map_head}
+use Rattle.c_passes.proofs.HeadLemmas.{set_count, set_head}
 
 same : (n f : ℕ) → n ≡ 0 + f → n ≡ f
 same n f e = omega (arith, e)
@@ -157,6 +160,25 @@ stands K file _ (Pruned made passed) =
       refuses =
           λ int refuses. kept_refuses K made (with_pruned made) int (λ f. pruned.kept made K int f [])
           (λ y. pruned.kept made K int _ (y ∷ [])) (h.refuses int refuses);
+    }
+stands K file _ (Inlined p f' made passed is) =
+    let h : StandsFor K file made = stands K file made passed in record {
+      fields = h.fields;
+      rows = h.rows;
+      count = set_count made.functions p f' ∙ h.count;
+      heads =
+          λ f g there. let has =
+          set_head made.functions p f' is.function is.there (sym is.inlined.result) (sym is.inlined.parameters) f g
+          there in
+          kept_head K file f g has.function has.result has.parameters (h.heads f has.function has.there);
+      runs =
+          λ int s given events moments shape values all run. inlined.runs-as made p f' is int K s given events moments
+          (h.runs int s given events moments shape values all run);
+      refuses =
+          λ int refuses. kept_refuses K made (with_function made p f') int
+          (λ f k s after x e. inlined.calls-alike made p f' is int k f [] s after x e)
+          (λ y k s after x e. inlined.calls-alike made p f' is int k (react_function K) (y ∷ []) s after x e)
+          (h.refuses int refuses);
     }
 
 -- what is to be refused

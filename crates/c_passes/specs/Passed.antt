@@ -17,6 +17,7 @@ use Rattle.c_bare.specs.Needs.{is_bare}
 use Rattle.c_bare.specs.Bare.{AreFunctions, AreNeedless, with_bare}
 use Rattle.c_unread.specs.Unread.{with_trimmed}
 use Rattle.c_pruned.specs.Pruned.{with_pruned}
+use Rattle.c_inlined.specs.Inlined.{FileIsInlined, with_function}
 
 -- ---- functions of the code
 
@@ -61,6 +62,9 @@ module _ (K : Shape) (file : File) where
     Trimmed : (made : File) → IsPassed made → IsPassed (with_trimmed made)
     -- parts of an `if` that nobody needs are gone
     Pruned : (made : File) → IsPassed made → IsPassed (with_pruned made)
+    -- in one function bodies of other functions stand in place of calls of them
+    Inlined : (p : ℕ) (f : Function) (made : File) → IsPassed made → FileIsInlined made p f
+        → IsPassed (with_function made p f)
 
   -- these functions of the code are those of such a file
   pub record ArePassed (functions : List declared_function.Function) : Type 0 where

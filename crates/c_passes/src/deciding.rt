@@ -1,13 +1,11 @@
 //! Tests are decided by what is known where they stand, if a plan for that is found.
-ghost use Rattle.std.specs.Prelude.{◌≡◌, IfOk};
-ghost use Rattle.code_language.specs.Code.{code_of};
+ghost use Rattle.std.specs.Prelude.{◌≡◌, IfOk, IfSome};
+ghost use Rattle.c_subset.specs.Trees as c;
 ghost use Rattle.c_functions.specs.Plans.{init_function, start_function, react_function};
 ghost use Rattle.c_shape.specs.FileShapes.{shape_seen};
-ghost use Rattle.c_writer.specs.Functions.{IsShapeOf};
-ghost use Rattle.c_passes.specs.Passed.{ArePassed, written_file};
+ghost use Rattle.c_passes.specs.Passed.{ArePassed};
 ghost use Rattle.c_passes.specs.Deciding.{FitsBetween};
 
-use crate::looping::looped_functions;
 use crate::spots::spots_of;
 use crate::types::field_types;
 use c_decided::{Plan, Unfit, decided_functions};
@@ -16,7 +14,6 @@ use c_fact_search::find_plan;
 use c_shape::FileShape;
 use c_subset::Function;
 use c_trees::is_short;
-use code_language::Code;
 use flow_base::Memory;
 use std::alloc::Global;
 
@@ -70,25 +67,23 @@ fn plan_for(
     }
 }
 
-/// The functions that are written for code, by number: each of a procedure is a loop where it may be.
-/// Where a plan is found that fits together between events and is right for them, tests go that it
-/// decides.
-pub fn begun_functions(
+/// The functions of a file in which tests go that a plan decides, where one is found that fits
+/// together between events. None where it isn't right for them.
+pub fn decided(
     alloc: Global,
     shape: &FileShape<'_>,
-    code: &Code,
-) -> Result<Vec<Function>, Memory>
-    requires shape { IsShapeOf (shape_seen shape.now) (code_of code.now) }
-    ensures { IfOk result (λ made. ArePassed (shape_seen shape.now)
-        (written_file (shape_seen shape.now) (code_of code.now)) made.items) }
+    functions: Vec<Function>,
+) -> Result<Option<Vec<Function>>, Memory>
+    ensures { IfOk result (λ found. IfSome found (λ made. (file : c.File) →
+        ArePassed (shape_seen shape.now) file functions.items →
+        ArePassed (shape_seen shape.now) file made.items)) }
 {
-    let looped = looped_functions(alloc, shape, code)?;
-    let Some(plan) = plan_for(alloc, shape, &looped)? else {
-        return Ok(looped);
+    let Some(plan) = plan_for(alloc, shape, &functions)? else {
+        return Ok(Some(functions));
     };
-    match decided_functions(alloc, &plan, looped) {
-        Ok(made) => Ok(made),
-        Err(Unfit::NotRight) => looped_functions(alloc, shape, code),
+    match decided_functions(alloc, &plan, functions) {
+        Ok(made) => Ok(Some(made)),
+        Err(Unfit::NotRight) => Ok(None),
         Err(Unfit::NoMemory) => Err(Memory),
     }
 }

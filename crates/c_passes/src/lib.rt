@@ -9,6 +9,7 @@ mod deciding;
 mod laws;
 mod looping;
 mod spots;
+mod tidying;
 mod types;
 mod written;
 

@@ -2,7 +2,7 @@ use Rattle.std.proofs.lemmas.Result.{IfOk-weaker}
 use Rattle.code_language.specs.Code.{code_of}
 use Rattle.c_shape.specs.FileShapes.{shape_seen}
 use Rattle.c_passes.specs.Passed.{written_file}
-use Rattle.c_passes.proofs.FunctionLemmas.{as_looped}
+use Rattle.c_passes.proofs.PassLemmas.{as_looped}
 use Rattle.c_passes.proofs.looping.looped_functions.Goals as goal
 
 pub returns : goal.returns

@@ -4,7 +4,7 @@ use Rattle.std.proofs.lemmas.Iterator.Consumers.{YieldsList-end}
 use Rattle.c_subset.specs.declared.trees.Function.{Function}
 use Rattle.c_pruned.specs.Pruned.{pruned_of}
 use Rattle.c_passes.proofs.FunctionLemmas.{AreTurnedSoFar, none_turned, one_more_turned, all_mapped}
-use Rattle.c_passes.proofs.chain.pruned.Goals as goal
+use Rattle.c_passes.proofs.tidying.pruned.Goals as goal
 
 pub loop-function-init : goal.loop-function-init
 loop-function-init c = none_turned (λ i g. pruned_of g) _ c.new-made.ensures.items

@@ -4,7 +4,7 @@ use Rattle.std.proofs.lemmas.Iterator.Consumers.{YieldsList-end}
 use Rattle.c_subset.specs.declared.trees.Function.{Function}
 use Rattle.c_unread.specs.Unread.{trimmed_of}
 use Rattle.c_passes.proofs.FunctionLemmas.{AreTurnedSoFar, none_turned, one_more_turned, all_mapped}
-use Rattle.c_passes.proofs.chain.trimmed.Goals as goal
+use Rattle.c_passes.proofs.tidying.trimmed.Goals as goal
 
 pub loop-function-init : goal.loop-function-init
 loop-function-init c = none_turned (λ i g. trimmed_of g) _ c.new-made.ensures.items

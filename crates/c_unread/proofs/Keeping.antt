@@ -1,6 +1,6 @@
 -- Statements without sets that nothing reads.
 use Rattle.std.proofs.Common.{◌≡◌, ◌==◌, ◌&&◌, ◌||◌, not, ℕ, Bool, true, false, cond, List, [], ◌∷◌, Option, Some, slice_get}
-use Rattle.std.proofs.Common.{inr, refl, sym, ◌∙◌, ℤ}
+use Rattle.std.proofs.Common.{inr, refl, sym, ap, ◌∙◌, subst, ℤ}
 use Rattle.std.specs.List.{list_any}
 use Rattle.c_subset.specs.declared.trees.Width.{Width}
 use Rattle.c_subset.specs.declared.trees.CType.{CType}
@@ -9,17 +9,18 @@ use Rattle.c_subset.specs.Trees.{CExpr}
 use Rattle.c_subset.specs.Trees.{Block, End, Set, Store as PutField, StoreAt, Call, Select, If, While, Return}
 use Rattle.c_subset.specs.Meaning.{CValue, Meaning, Gives, Wrong, with_meaning, converted, promoted, is_true, Store}
 use Rattle.c_subset.specs.Meaning.{element, Locals, meaning}
-use Rattle.c_subset.specs.Running.{Outcome, Falls, Returns, with_value, and_on, with_local, brought_to, with_field}
+use Rattle.c_subset.specs.Running.{Outcome, Falls, Returns, Starves, GoesWrong, with_value, and_on, with_local, brought_to, with_field}
 use Rattle.c_subset.specs.Running.{with_element, Calls, with_values, called, same_type, turns, selected, outcome}
 use Rattle.c_bare.specs.Needs.{is_it, reads}
 use Rattle.c_bare.specs.Bare.{calls_bare}
 use Rattle.c_bare.proofs.Clearer.{with-clearer}
 use Rattle.c_bare.proofs.Truth.{left, right}
-use Rattle.c_bare.proofs.Keeping.{Sub, Keeps, Alike, means, value-keeps, on-keeps, cond-keeps, called-keeps, values-keep}
+use Rattle.c_bare.proofs.Keeping.{Sub, Keeps, Alike, means, value-keeps, on-keeps, cond-keeps, values-keep}
 use Rattle.c_bare.proofs.Keeping.{turns-keep, selected-keeps}
-use Rattle.c_unread.specs.Live.{LocalName, is_live, without, united, with_read, with_all_read, with_named}
+use Rattle.c_unread.specs.Live.{LocalName, is_live, without, unread_number, taken_by, united, with_read, with_all_read}
+use Rattle.c_unread.specs.Live.{with_named}
 use Rattle.c_unread.specs.Unread.{Trimmed, set_before, trimmed}
-use Rattle.c_unread.proofs.LiveLemmas.{it-live, others-stay, united-is, read-is, all-read-is}
+use Rattle.c_unread.proofs.LiveLemmas.{it-live, others-stay, none-comes, united-is, read-is, all-read-is}
 use Rattle.c_unread.proofs.Within.{names, name-is, trim-within, by-either}
 
 -- these locals
@@ -88,14 +89,34 @@ module _ (l m : Locals) where
         clash e = absurd cc
       at false same h w = h w
 
--- with one set in both, of which the list may have it or not
-set-more : (u : CType) (j : ℕ) (y : ℤ) (live : List LocalName) (l m : Locals) → Sub (Live live) l m
-    → Sub (Live live) (with_local l u j y) (with_local m u j y)
-set-more u j y live l m h t i z r w = at (is_it t i u j) w
+-- what is one of a list is no local that isn't
+other-than : (t u : CType) (i k : ℕ) (live : List LocalName) → is_live t i live ≡ true → is_live u k live ≡ false
+    → is_it t i u k ≡ false
+other-than t u i k live r none = at (is_it t i u k) refl
   where
-    at : (b : Bool) → cond b (Some y) (l t i) ≡ Some z → cond b (Some y) (m t i) ≡ Some z
-    at true w = w
-    at false w = h t i z r w
+    at : (b : Bool) → is_it t i u k ≡ b → b ≡ false
+    at true e = sym r ∙ it-live t u i k live e ∙ none
+    at false e = refl
+
+-- with what a call returns, in a local of the first and in the one that takes it in the second
+set-taken : (u : CType) (j : ℕ) (y : ℤ) (live : List LocalName) (l m : Locals) → Sub (Live (without u j live)) l m
+    → Sub (Live live) (with_local l u j y) (with_local m u (taken_by u j live) y)
+set-taken u j y live l m h = at (is_live u j live) (is_live u unread_number live) refl refl
+  where
+    at : (b c : Bool) → is_live u j live ≡ b → is_live u unread_number live ≡ c
+        → Sub (Live live) (with_local l u j y) (with_local m u (cond (b || c) j unread_number) y)
+    at true c e f = set-both l m u j y live h
+    at false true e f = set-both l m u j y live h
+    at false false e f = λ t i z r w.
+        let own : is_it t i u j ≡ false = other-than t u i j live r e in
+        let taker : is_it t i u unread_number ≡ false = other-than t u i unread_number live r f in
+        ap (λ (b : Bool). cond b (Some y) (m t i)) taker
+        ∙ h t i z (others-stay t u i j live own r) (sym (ap (λ (b : Bool). cond b (Some y) (l t i)) own) ∙ w)
+
+-- locals that hold what a list needs hold what it needs but for one
+held-without : (u : CType) (j : ℕ) (live : List LocalName) (l m : Locals) → Sub (Live live) l m
+    → Sub (Live (without u j live)) l m
+held-without u j live l m h t i z r w = h t i z (none-comes t u i j live r) w
 
 -- locals that hold what a list needs hold what a turn needs of which the list has all names
 turn-part : (e : CExpr) (a : Block) (after : List LocalName) (l m : Locals)
@@ -118,6 +139,19 @@ gone : (r : CType → ℕ → Bool) (a : Meaning) (f : CValue → Outcome) (o : 
     → Keeps r (with_value a f) o
 gone r (Gives x) f o h = h x
 gone r Wrong f o h = tt
+
+-- x = f(m, e, ..);, where another local takes what is returned in the second
+taken-keeps : (r : CType → ℕ → Bool) (o p : Outcome) (t : CType) (i j : ℕ) (l m : Locals)
+    (f g : Store → Locals → Outcome) → Alike o p
+    → ((s : Store) (z : ℤ) → Keeps r (f s (with_local l t i z)) (g s (with_local m t j z)))
+    → Keeps r (called o t i l f) (called p t j m g)
+taken-keeps r (Falls s n) p t i j l m f g e h = tt
+taken-keeps r (Returns s x) p t i j l m f g e h =
+    subst (λ (o : Outcome). Keeps r (called (Returns s x) t i l f) (called o t j m g)) (sym (e s x refl))
+    (value-keeps r (converted t x.value) (converted t x.value) (λ y. f s (with_local l t i y.value))
+    (λ y. g s (with_local m t j y.value)) (inr refl) (λ y. h s y.value))
+taken-keeps r Starves p t i j l m f g e h = tt
+taken-keeps r GoesWrong p t i j l m f g e h = tt
 
 none-bare : (cases : List Case) → not (calls_bare [] cases) ≡ true
 none-bare [] = refl
@@ -189,14 +223,15 @@ module _ (int : Width) (c d : Calls) (alike : (f : ℕ) (xs : List CValue) (s : 
       let after = trimmed rest live in
       values-keep [] int s (Live live) l m args
       (λ xs. called (c f xs s) u j l (λ v n. outcome int c k rest v n))
-      (λ xs. called (d f xs s) u j m (λ v n. outcome int d k after.block v n))
+      (λ xs. called (d f xs s) u (taken_by u j after.live) m (λ v n. outcome int d k after.block v n))
       (all-read-part l m args (without u j after.live) h)
-      (λ xs. called-keeps (Live live) (c f xs s) (d f xs s) u j l m (λ v n. outcome int c k rest v n)
-      (λ v n. outcome int d k after.block v n) (alike f xs s)
-      (λ v y. trim-keeps rest live v (with_local l u j y) (with_local m u j y)
-      (set-both l m u j y after.live (all-list-part l m args (without u j after.live) h))))
+      (λ xs. taken-keeps (Live live) (c f xs s) (d f xs s) u j (taken_by u j after.live) l m
+      (λ v n. outcome int c k rest v n) (λ v n. outcome int d k after.block v n) (alike f xs s)
+      (λ v y. trim-keeps rest live v (with_local l u j y) (with_local m u (taken_by u j after.live) y)
+      (set-taken u j y after.live l m (all-list-part l m args (without u j after.live) h))))
   trim-keeps (Select u j e cases args rest) live s l m h =
       let after = trimmed rest live in
+      let taker : ℕ = taken_by u j after.live in
       let under = all-list-part l m args (with_read e after.live) h in
       let kept = list-part l m e after.live under in
       value-keeps (Live live) (meaning int s l e) (meaning int s m e)
@@ -204,7 +239,7 @@ module _ (int : Width) (c d : Calls) (alike : (f : ℕ) (xs : List CValue) (s : 
       selected p.type p.value cases (λ f. called (c f xs s) u j l (λ v n. outcome int c k rest v n))
       (outcome int c k rest s l))))
       (λ n. with_value (converted (promoted int n.type) n.value) (λ p. with_values int s m args (λ xs.
-      selected p.type p.value cases (λ f. called (d f xs s) u j m (λ v n. outcome int d k after.block v n))
+      selected p.type p.value cases (λ f. called (d f xs s) u taker m (λ v n. outcome int d k after.block v n))
       (outcome int d k after.block s m))))
       (means int s l m e (read-part l m e after.live under))
       (λ n. value-keeps (Live live) (converted (promoted int n.type) n.value) (converted (promoted int n.type) n.value)
@@ -212,23 +247,23 @@ module _ (int : Width) (c d : Calls) (alike : (f : ℕ) (xs : List CValue) (s : 
       selected p.type p.value cases (λ f. called (c f xs s) u j l (λ v n. outcome int c k rest v n))
       (outcome int c k rest s l)))
       (λ p. with_values int s m args (λ xs.
-      selected p.type p.value cases (λ f. called (d f xs s) u j m (λ v n. outcome int d k after.block v n))
+      selected p.type p.value cases (λ f. called (d f xs s) u taker m (λ v n. outcome int d k after.block v n))
       (outcome int d k after.block s m))) (inr refl)
       (λ p. values-keep [] int s (Live live) l m args
       (λ xs. selected p.type p.value cases (λ f. called (c f xs s) u j l (λ v n. outcome int c k rest v n))
       (outcome int c k rest s l))
       (λ xs. selected p.type p.value cases
-      (λ f. called (d f xs s) u j m (λ v n. outcome int d k after.block v n))
+      (λ f. called (d f xs s) u taker m (λ v n. outcome int d k after.block v n))
       (outcome int d k after.block s m))
       (all-read-part l m args (with_read e after.live) h)
       (λ xs. selected-keeps [] (Live live) p.type p.value cases
       (λ f. called (c f xs s) u j l (λ v n. outcome int c k rest v n))
-      (λ f. called (d f xs s) u j m (λ v n. outcome int d k after.block v n)) (outcome int c k rest s l)
+      (λ f. called (d f xs s) u taker m (λ v n. outcome int d k after.block v n)) (outcome int c k rest s l)
       (outcome int d k after.block s m) (none-bare cases)
-      (λ f is. called-keeps (Live live) (c f xs s) (d f xs s) u j l m (λ v n. outcome int c k rest v n)
+      (λ f is. taken-keeps (Live live) (c f xs s) (d f xs s) u j taker l m (λ v n. outcome int c k rest v n)
       (λ v n. outcome int d k after.block v n) (alike f xs s)
-      (λ v y. trim-keeps rest live v (with_local l u j y) (with_local m u j y)
-      (set-more u j y after.live l m kept)))
+      (λ v y. trim-keeps rest live v (with_local l u j y) (with_local m u taker y)
+      (set-taken u j y after.live l m (held-without u j after.live l m kept))))
       (trim-keeps rest live s l m kept))))
   trim-keeps (If e a b rest) live s l m h =
       let after = trimmed rest live in

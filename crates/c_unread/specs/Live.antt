@@ -1,5 +1,5 @@
 -- Locals that may be read from some place of a function on, before they are set.
-use Rattle.std.specs.Prelude.{ℕ, Bool, not, List, [], ◌∷◌, ◌++◌, filter, if◌then◌else◌}
+use Rattle.std.specs.Prelude.{ℕ, Bool, not, ◌||◌, List, [], ◌∷◌, ◌++◌, filter, if◌then◌else◌}
 use Rattle.std.specs.List.{list_any}
 use Rattle.c_subset.specs.declared.trees.CType.{CType}
 use Rattle.c_subset.specs.Trees.{CExpr, Const, Field, Element, Local, Cast, Minus, Bang, Calc, Divide}
@@ -20,6 +20,15 @@ with_local t i live = if is_live t i live then live else live ++ record { of = t
 -- without one
 abbrev pub without : CType → ℕ → List LocalName → List LocalName
 without t i live = filter (λ (x : LocalName). not (is_it x.of x.number t i)) live
+
+-- the number of locals that take what nothing reads: the C of a chart reads none of so large a number
+abbrev pub unread_number : ℕ
+unread_number = 1000
+
+-- the number of the local of a type that takes what a call returns, before statements that may read these: its own
+-- where they may read that one, else the number of those that take what nothing reads
+abbrev pub taken_by : CType → ℕ → List LocalName → ℕ
+taken_by t i live = if is_live t i live || is_live t unread_number live then i else unread_number
 
 -- those of both
 abbrev pub united : List LocalName → List LocalName → List LocalName

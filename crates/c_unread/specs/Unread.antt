@@ -1,10 +1,12 @@
--- Statements without sets of locals that nothing reads.
+-- Statements without sets of locals that nothing reads, in which what a call returns goes to a local of its own kind
+-- where nothing reads it.
 use Rattle.std.specs.Prelude.{ℕ, Bool, true, false, List, [], map, if◌then◌else◌}
 use Rattle.c_subset.specs.declared.trees.CType.{CType}
 use Rattle.c_subset.specs.Trees.{CExpr, Function, File}
 use Rattle.c_subset.specs.Trees.{Block, End, Set, Store, StoreAt, Call, Select, If, While, Return}
 use Rattle.c_trees.specs.Sizes.{is_short}
-use Rattle.c_unread.specs.Live.{LocalName, is_live, without, united, with_read, with_all_read, with_named}
+use Rattle.c_unread.specs.Live.{LocalName, is_live, without, taken_by, united, with_read, with_all_read}
+use Rattle.c_unread.specs.Live.{with_named}
 
 -- statements, and the locals that they, and what comes after them, may read before they are set
 pub record Trimmed : Type 0 where
@@ -33,13 +35,20 @@ trimmed (Store f e rest) live =
 trimmed (StoreAt a i e rest) live =
     let after = trimmed rest live in
     record { block = StoreAt a i e after.block; live = with_read e (with_read i after.live) }
+-- the call stays: it may change the struct
 trimmed (Call t i f args rest) live =
     let after = trimmed rest live in
-    record { block = Call t i f args after.block; live = with_all_read args (without t i after.live) }
+    record {
+      block = Call t (taken_by t i after.live) f args after.block;
+      live = with_all_read args (without t i after.live);
+    }
 -- where no case fits, nothing is set
 trimmed (Select t i e cases args rest) live =
     let after = trimmed rest live in
-    record { block = Select t i e cases args after.block; live = with_all_read args (with_read e after.live) }
+    record {
+      block = Select t (taken_by t i after.live) e cases args after.block;
+      live = with_all_read args (with_read e after.live);
+    }
 trimmed (If e a b rest) live =
     let after = trimmed rest live in if_before e (trimmed a after.live) (trimmed b after.live) after
 -- the next turn may read all that one may read

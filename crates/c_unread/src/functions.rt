@@ -10,8 +10,8 @@ use c_trees::{is_short, lines_of_tree, tree_of};
 use flow_base::Memory;
 use std::alloc::Global;
 
-/// The function without sets of locals that nothing reads. One of more than 1,000 lines stays as it
-/// is.
+/// The function without sets of locals that nothing reads; what a call returns and nothing reads goes
+/// to a local that no line reads. One of more than 1,000 lines stays as it is.
 ///
 /// It takes memory for a tree of its lines. `Memory` only where memory was refused.
 pub fn trimmed_function(alloc: Global, function: Function) -> Result<Function, Memory>

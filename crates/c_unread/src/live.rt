@@ -12,12 +12,27 @@ use c_trees::Tree;
 use flow_base::Memory;
 use std::alloc::Global;
 
+/// The number of locals that take what nothing reads: the C of a chart reads none of so large a number.
+const UNREAD: u32 = 1_000;
+
 /// Whether a local is one of these.
 pub fn is_live(of: CType, number: u32, live: &[LocalName]) -> bool
     ensures { result ≡ spec.is_live of number live.now }
 {
     live.iter()
         .any(|local| is_it(of, number as usize, local.of, local.number))
+}
+
+/// The number of the local that takes what a call returns, where these may be read after it: its own,
+/// or that of locals that nothing reads.
+pub fn taken_by(of: CType, number: u32, live: &[LocalName]) -> u32
+    ensures { result ≡ spec.taken_by of number live.now }
+{
+    if is_live(of, number, live) || is_live(of, UNREAD, live) {
+        number
+    } else {
+        UNREAD
+    }
 }
 
 /// Adds a local, unless it is one of them.

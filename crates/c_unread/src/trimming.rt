@@ -11,7 +11,9 @@ ghost use Rattle.c_unread.specs.Live as names;
 ghost use Rattle.c_unread.specs.Unread as spec;
 ghost use Rattle.c_unread.specs.Views.{trimmed_in};
 
-use crate::live::{add_all, add_all_read, add_named, add_read, copied, is_live, take_away};
+use crate::live::{
+    add_all, add_all_read, add_named, add_read, copied, is_live, take_away, taken_by,
+};
 use crate::local_name::LocalName;
 use c_subset::{CExpr, CType, Case};
 use c_trees::{Tree, boxed};
@@ -137,7 +139,8 @@ fn store_at_before(
     }
 }
 
-/// `x = f(m, e, ..);` before others.
+/// `x = f(m, e, ..);` before others: where they don't read x, a local that nothing reads takes what
+/// is returned.
 fn call_before(
     alloc: Global,
     of: CType,
@@ -147,14 +150,15 @@ fn call_before(
     rest: Trimmed,
 ) -> Result<Trimmed, Memory>
     ensures { IfOk result (λ made. trimmed_in made ≡ record {
-      block = c.Call of number function (exprs_of (items_of args)) (block_of rest.tree.value);
+      block = c.Call of (names.taken_by of number rest.live.items) function (exprs_of (items_of args)) (block_of rest.tree.value);
       live = names.with_all_read (exprs_of (items_of args)) (names.without of number rest.live.items);
     }) }
 {
+    let taker = taken_by(of, number, &rest.live);
     let live = with_all_read(args.items(), without(of, number, rest.live))?;
     with_live(
         alloc,
-        Tree::Call(of, number, function, args, rest.tree),
+        Tree::Call(of, taker, function, args, rest.tree),
         live,
     )
 }
@@ -171,7 +175,7 @@ fn select_reads(
     with_all_read(args, with_read(expr, live)?)
 }
 
-/// `switch` before others.
+/// `switch` before others: its local is chosen as that of a call.
 fn select_before(
     alloc: Global,
     of: CType,
@@ -182,17 +186,18 @@ fn select_before(
     rest: Trimmed,
 ) -> Result<Trimmed, Memory>
     ensures { IfOk result (λ made. trimmed_in made ≡ record {
-      block = c.Select of number (expr_of expr) (items_of cases) (exprs_of (items_of args))
+      block = c.Select of (names.taken_by of number rest.live.items) (expr_of expr) (items_of cases) (exprs_of (items_of args))
           (block_of rest.tree.value);
       live = names.with_all_read (exprs_of (items_of args))
           (names.with_read (expr_of expr) rest.live.items);
     }) }
 {
+    let taker = taken_by(of, number, &rest.live);
     match select_reads(&expr, args.items(), rest.live) {
         Ok(live) => {
             with_live(
                 alloc,
-                Tree::Select(of, number, expr, cases, args, rest.tree),
+                Tree::Select(of, taker, expr, cases, args, rest.tree),
                 live,
             )
         }

@@ -1,6 +1,7 @@
 //! The search: work is done over and over, and the certificate grows by where it ends.
 ghost use Rattle.std.specs.Prelude.{IfOk};
 ghost use Rattle.checked_chart.specs.Kept.{chart_of};
+ghost use Rattle.range_check.specs.Runs.{StaysInRanges};
 ghost use Rattle.range_rules.specs.Closed.{IsClosed};
 
 use crate::growing::{Growth, are_joined, grow_at, grow_span, grow_spans, place_of};
@@ -21,10 +22,22 @@ pub struct Limits {
     pub method: Method,
     /// How often all work is done.
     pub rounds: u32,
-    /// After how many rounds spans grow up to numbers that stand in the chart.
+    /// How often what a certificate lacks is mended for one piece of work.
+    pub mends: u32,
+    /// After how many rounds spans grow up to numbers that stand in the chart. Those of a cell do so
+    /// after as many times that it has grown, too.
     pub patience: u32,
     /// How many sets between two events there may be.
     pub sets: usize,
+}
+
+/// A certificate that grows.
+#[derive(Drop)]
+struct Draft {
+    /// The certificate.
+    cert: Certificate,
+    /// For each of its cells how often the worlds from which it begins have grown.
+    growths: Vec<u32>,
 }
 
 /// What stays the same in a round.
@@ -125,25 +138,57 @@ fn put_ends(
     }
 }
 
-/// Puts a cell to others: one of the same work from sets that are joined grows by its worlds.
-fn put_cell(search: &Search<'_>, cells: &mut Vec<Cell>, cell: Cell) -> Result<(), Lack> {
+/// The number of the cell of a list that grows by another: it is for the same work, from sets that
+/// are joined.
+fn cell_of(search: &Search<'_>, cells: &[Cell], cell: &Cell) -> Option<usize> {
     for i in 0..cells.len() {
         if cells[i].state == cell.state
             && cells[i].event == cell.event
             && are_joined(&search.growth, &cells[i].from, &cell.from)
         {
-            grow_spans(&search.growth, &mut cells[i].from.spans, &cell.from.spans);
-            return Ok(());
+            return Some(i);
         }
     }
-    match cells.push(cell) {
-        Ok(()) => Ok(()),
-        Err(_) => Err(Lack::Memory),
+    None
+}
+
+/// Widens the worlds from which the cell of that number begins by those of another. One that has
+/// grown often does so up to numbers that stand in the chart.
+fn grow_cell(search: &Search<'_>, draft: &mut Draft, place: usize, by: &Cell) {
+    if place >= draft.cert.cells.len() || place >= draft.growths.len() {
+        return;
+    }
+    let often = draft.growths[place] >= search.limits.patience;
+    let growth = Growth {
+        hasty: search.growth.hasty || often,
+        ..search.growth
+    };
+    grow_spans(
+        &growth,
+        &mut draft.cert.cells[place].from.spans,
+        &by.from.spans,
+    );
+    draft.growths[place] = draft.growths[place].saturating_add(1);
+}
+
+/// Puts a cell to those of a certificate: one of the same work from sets that are joined grows by its
+/// worlds.
+fn put_cell(search: &Search<'_>, draft: &mut Draft, cell: Cell) -> Result<(), Lack> {
+    match cell_of(search, &draft.cert.cells, &cell) {
+        Some(place) => {
+            grow_cell(search, draft, place, &cell);
+            Ok(())
+        }
+        None => {
+            put(&mut draft.growths, 0)?;
+            put(&mut draft.cert.cells, cell)
+        }
     }
 }
 
 /// Mends what a certificate lacks, where it can.
-fn mend(search: &Search<'_>, cert: &mut Certificate, lack: Lack) -> Result<(), Lack> {
+fn mend(search: &Search<'_>, draft: &mut Draft, lack: Lack) -> Result<(), Lack> {
+    let cert = &mut draft.cert;
     match lack {
         Lack::Zero => {
             cert.zero = true;
@@ -160,7 +205,7 @@ fn mend(search: &Search<'_>, cert: &mut Certificate, lack: Lack) -> Result<(), L
             grow_span(&search.growth, &mut cert.always, datum as usize, span);
             Ok(())
         }
-        Lack::Sent(cell) => put_cell(search, &mut cert.cells, Box::into_inner(cell)),
+        Lack::Sent(cell) => put_cell(search, draft, Box::into_inner(cell)),
         Lack::Memory => Err(Lack::Memory),
         Lack::Unknown => Err(Lack::Unknown),
         Lack::GivenUp => Err(Lack::GivenUp),
@@ -169,16 +214,16 @@ fn mend(search: &Search<'_>, cert: &mut Certificate, lack: Lack) -> Result<(), L
 
 /// Does work, mends what the certificate lacks for it, and puts its ends to where the certificate
 /// has them. Whether it has grown.
-fn settle(search: &Search<'_>, cert: &mut Certificate, root: Root) -> Result<bool, Lack> {
+fn settle(search: &Search<'_>, draft: &mut Draft, root: Root) -> Result<bool, Lack> {
     let mut mended = false;
-    for _ in 0..search.limits.rounds {
-        match ends_of(search, cert, root) {
+    for _ in 0..search.limits.mends {
+        match ends_of(search, &draft.cert, root) {
             Ok(ys) => {
-                let grew = put_ends(search, cert, root, ys)?;
+                let grew = put_ends(search, &mut draft.cert, root, ys)?;
                 return Ok(grew || mended);
             }
             Err(lack) => {
-                mend(search, cert, lack)?;
+                mend(search, draft, lack)?;
                 mended = true;
             }
         }
@@ -187,13 +232,13 @@ fn settle(search: &Search<'_>, cert: &mut Certificate, root: Root) -> Result<boo
 }
 
 /// Does the work of each event from a set between two events. Whether the certificate has grown.
-fn settle_events(search: &Search<'_>, cert: &mut Certificate, place: usize) -> Result<bool, Lack> {
-    let mut grew = settle(search, cert, Root::Rest(place, Event::Tick))?;
+fn settle_events(search: &Search<'_>, draft: &mut Draft, place: usize) -> Result<bool, Lack> {
+    let mut grew = settle(search, draft, Root::Rest(place, Event::Tick))?;
     let events = search.growth.chart.names().events.items();
     for (number, event) in events.iter().enumerate() {
         if event.kind == EventKind::Input {
             let root = Root::Rest(place, Event::Named(number as u32));
-            let more = settle(search, cert, root)?;
+            let more = settle(search, draft, root)?;
             grew = grew || more;
         }
     }
@@ -201,20 +246,20 @@ fn settle_events(search: &Search<'_>, cert: &mut Certificate, place: usize) -> R
 }
 
 /// Does all work once. Whether the certificate has grown.
-fn round(search: &Search<'_>, cert: &mut Certificate) -> Result<bool, Lack> {
-    let mut grew = settle(search, cert, Root::Start)?;
+fn round(search: &Search<'_>, draft: &mut Draft) -> Result<bool, Lack> {
+    let mut grew = settle(search, draft, Root::Start)?;
     for place in 0..search.limits.sets {
-        if place >= cert.rest.len() {
+        if place >= draft.cert.rest.len() {
             break;
         }
-        let more = settle_events(search, cert, place)?;
+        let more = settle_events(search, draft, place)?;
         grew = grew || more;
     }
     for place in 0..search.limits.sets {
-        if place >= cert.cells.len() {
+        if place >= draft.cert.cells.len() {
             break;
         }
-        let more = settle(search, cert, Root::Cell(place))?;
+        let more = settle(search, draft, Root::Cell(place))?;
         grew = grew || more;
     }
     Ok(grew)
@@ -253,7 +298,8 @@ fn checked(
     cert: Certificate,
     method: Method,
 ) -> Result<Certificate, Lack>
-    ensures { IfOk result (λ found. IsClosed (chart_of chart.now) found) }
+    ensures closed { IfOk result (λ found. IsClosed (chart_of chart.now) found) }
+    ensures runs { IfOk result (λ found. StaysInRanges (chart_of chart.now) found) }
 {
     let closed = is_closed(alloc, chart, &cert, method)?;
     if closed { Ok(cert) } else { Err(Lack::Unknown) }
@@ -261,36 +307,70 @@ fn checked(
 
 /// Does all work in rounds until the certificate doesn't grow. `GivenUp` where that takes more than
 /// the limits say.
-fn grown(alloc: Global, chart: &Chart, limits: Limits) -> Result<Certificate, Lack> {
-    let stops = all_stops(alloc, chart)?;
-    let steps = Counter::new(limits.method.steps);
-    let mut cert = least(alloc, chart)?;
-    for number in 0..limits.rounds {
+fn grow(search: &Search<'_>, draft: &mut Draft) -> Result<(), Lack> {
+    for number in 0..search.limits.rounds {
         let growth = Growth {
-            chart,
-            stops: &stops,
-            apart: limits.method.apart,
-            hasty: number >= limits.patience,
+            hasty: number >= search.limits.patience,
+            ..search.growth
         };
-        let search = Search {
-            alloc,
-            growth,
-            limits,
-            steps: &steps,
-        };
-        let grew = round(&search, &mut cert)?;
+        let grew = round(&Search { growth, ..*search }, draft)?;
         if !grew {
-            return Ok(cert);
+            return Ok(());
         }
     }
     Err(Lack::GivenUp)
+}
+
+/// A certificate that doesn't grow. All work is done in rounds until it doesn't; and then once more
+/// from what is at each moment at least, so that nothing is said of faults and spans that only sets
+/// had which have grown since.
+fn grown(alloc: Global, chart: &Chart, limits: Limits) -> Result<Certificate, Lack> {
+    let stops = all_stops(alloc, chart)?;
+    let steps = Counter::new(limits.method.steps);
+    let growth = Growth {
+        chart,
+        stops: &stops,
+        apart: limits.method.apart,
+        hasty: false,
+    };
+    let search = Search {
+        alloc,
+        growth,
+        limits,
+        steps: &steps,
+    };
+    let mut draft = Draft {
+        cert: least(alloc, chart)?,
+        growths: Vec::new(alloc),
+    };
+    grow(&search, &mut draft)?;
+    let Draft { cert, growths } = draft;
+    let Certificate { rest, cells, .. } = cert;
+    let Certificate {
+        always,
+        zero,
+        over,
+        ..
+    } = least(alloc, chart)?;
+    let cert = Certificate {
+        always,
+        zero,
+        over,
+        rest,
+        cells,
+    };
+    let mut draft = Draft { cert, growths };
+    grow(&search, &mut draft)?;
+    let Draft { cert, .. } = draft;
+    Ok(cert)
 }
 
 /// Searches for a closed certificate of a chart: all work is done in rounds until the certificate
 /// doesn't grow, and then it is checked. Answers: `GivenUp` where that takes more than the limits
 /// say, and those of `is_closed` that can't be mended, `Unknown` and `Memory`.
 pub fn find(alloc: Global, chart: &Chart, limits: Limits) -> Result<Certificate, Lack>
-    ensures { IfOk result (λ cert. IsClosed (chart_of chart.now) cert) }
+    ensures closed { IfOk result (λ cert. IsClosed (chart_of chart.now) cert) }
+    ensures runs { IfOk result (λ cert. StaysInRanges (chart_of chart.now) cert) }
 {
     let cert = grown(alloc, chart, limits)?;
     let found = checked(alloc, chart, cert, limits.method)?;
